@@ -8,39 +8,39 @@ use Rattle.cell_picture.specs.declared.frame.Frame.{Frame}
 use Rattle.cell_picture.specs.declared.frame.GridSquare.{GridSquare}
 use Rattle.cell_picture.specs.declared.frame.TheConstants.{SQUARES, WIDTH}
 
--- a sum of numbers of 64 bits, up to the last of them
+-- the sum of two numbers of 64 bits, at most the greatest of them (`saturating_add`)
 abbrev pub sum64 : ℕ → ℕ → ℕ
 sum64 a b = min (a + b) (2 ^ 64 - 1)
 
--- a product of them
+-- the product of two, at most the greatest of them (`saturating_mul`)
 abbrev pub product64 : ℕ → ℕ → ℕ
 product64 a b = min (a * b) (2 ^ 64 - 1)
 
--- the greatest multiple of a step up to a number
+-- the greatest multiple of `step` that is at most `number`
 abbrev pub floor_of : ℕ → ℕ → ℕ
 floor_of number step = number / step * step
 
--- from the least to the greatest coordinate of a rectangle, the longer way of the two
+-- the greater of the two distances between the least and the greatest coordinate of a rectangle
 abbrev pub longer_side : RectParts → ℕ
 longer_side rect = max (rect.i_max - rect.i_min) (rect.j_max - rect.j_min)
 
--- the side of the squares that are drawn: that of the rectangle's level, or a greater power of two, so that
--- about as many squares as are wanted lie along the longer side
+-- `step` is the side of the grid's squares: the power of two at which about SQUARES of them lie along `way`
+-- leaves, but at least `side`
 abbrev pub IsStep : ℕ → ℕ → ℕ → Type 0
 IsStep way side step = (power : ℕ) × (IsNextPowerOfTwo (way / SQUARES) power × (step ≡ max power side))
 
--- what is shown beside the rectangle: a quarter of it, or a square
+-- the margin around a rectangle: a quarter of its longer side, or a square of the grid if that is more
 abbrev pub margin_of : RectParts → ℕ → ℕ
 margin_of rect step = max (longer_side rect / 4) step
 
--- the least coordinate that is shown, and the one after the greatest, in whole squares of the face
+-- the least coordinate that is shown, and the one after the greatest, in whole squares of the grid
 abbrev pub shown_from : ℕ → ℕ → ℕ → ℕ
 shown_from least margin step = floor_of (least - margin) step
 
 abbrev pub shown_to : ℕ → ℕ → ℕ → ℕ
 shown_to greatest margin step = min (sum64 (floor_of (sum64 greatest margin) step) step) (2 ^ 30)
 
--- the part of the face that is shown of a rectangle
+-- the frame is the part of the face that is shown for a rectangle
 pub record IsFrame (rect : RectParts) (frame : Frame) : Type 0 where
   pub step : IsStep (longer_side rect) (2 ^ (30 - rect.level)) frame.step
   pub i : frame.i ≡ shown_from rect.i_min (margin_of rect frame.step) frame.step
@@ -48,11 +48,11 @@ pub record IsFrame (rect : RectParts) (frame : Frame) : Type 0 where
   pub width : frame.width ≡ shown_to rect.i_max (margin_of rect frame.step) frame.step - frame.i
   pub height : frame.height ≡ shown_to rect.j_max (margin_of rect frame.step) frame.step - frame.j
 
--- how far below the upper edge a coordinate `j` is
+-- how many leaves below the upper edge the coordinate `j` is
 abbrev pub down_to : Frame → ℕ → ℕ
 down_to frame j = sum64 frame.j frame.height - j
 
--- the place of a cell: `y` runs downwards
+-- the square of a cell in the picture: `y` runs downwards
 abbrev pub place_of : Frame → ℕ → GridSquare
 place_of frame cell =
     let side = 2 ^ (30 - level_of cell) in
@@ -63,17 +63,17 @@ place_of frame cell =
       side = side;
     }
 
--- the middle of a place
+-- the centre of a square
 abbrev pub middle_x : GridSquare → ℕ
 middle_x place = sum64 place.x (place.side / 2)
 
 abbrev pub middle_y : GridSquare → ℕ
 middle_y place = sum64 place.y (place.side / 2)
 
--- how thick a line of one pixel is, in leaves
+-- the width of a line that is about one pixel wide, in leaves
 abbrev pub line_of : Frame → ℕ
 line_of frame = max (frame.width / WIDTH) 1
 
--- how many pixels the part is high
+-- the height of the face's part in the picture, in pixels
 abbrev pub tall_of : Frame → ℕ
 tall_of frame = product64 frame.height WIDTH / frame.width

@@ -9,43 +9,44 @@ use Rattle.cell_picture.specs.declared.frame.GridSquare.{GridSquare}
 use Rattle.cell_picture.specs.declared.frame.TheConstants.{WIDTH}
 use Rattle.cell_picture.specs.declared.picture.TheConstants.{LEGEND, LEGEND_HEIGHT, STYLE}
 
--- what the picture shows
+-- the title of the picture of a rectangle
 unfoldable pub title_text : RectParts → List ℕ
 title_text rect =
     codes "<title>The cells of a rectangle on face " ++ (decimal rect.face
     ++ (codes ", widened to whole squares of level " ++ (decimal rect.level ++ codes "</title>\n")))
 
--- the picture begins, which is so many pixels high
+-- the start tag of a picture that is `height` pixels high
 unfoldable pub opening_text : ℕ → List ℕ
-opening_text whole =
+opening_text height =
     codes "<svg xmlns=\"http://www.w3.org/2000/svg\" width=\"" ++ (decimal WIDTH ++ (codes "\" viewBox=\"0 0 "
-    ++ (decimal WIDTH ++ (codes " " ++ (decimal whole ++ codes "\">\n")))))
+    ++ (decimal WIDTH ++ (codes " " ++ (decimal height ++ codes "\">\n")))))
 
--- the part of the face begins, whose coordinates are leaves
+-- the start tag of the nested picture of the face, whose coordinates are leaves
 unfoldable pub part_start : Frame → List ℕ
 part_start frame =
     codes "<svg width=\"" ++ (decimal WIDTH ++ (codes "\" height=\"" ++ (decimal (tall_of frame)
     ++ (codes "\" viewBox=\"0 0 " ++ (decimal frame.width ++ (codes " " ++ (decimal frame.height
     ++ (codes "\" stroke-width=\"" ++ (decimal (line_of frame) ++ codes "\">\n")))))))))
 
--- its ground
+-- the background of the face
 unfoldable pub face_text : Frame → List ℕ
 face_text frame =
     codes "<rect class=\"face\" width=\"" ++ (decimal frame.width ++ (codes "\" height=\""
     ++ (decimal frame.height ++ codes "\"/>\n")))
 
+-- the text before the grid
 abbrev pub head_text : Frame → RectParts → List ℕ
 head_text frame rect = opening_text (sum64 (tall_of frame) LEGEND_HEIGHT)
     ++ (title_text rect ++ (STYLE.now ++ (part_start frame ++ face_text frame)))
 
--- an upright line, and one from left to right
+-- the path of a vertical line at `x`, and of a horizontal line at `y`
 unfoldable pub upright : ℕ → ℕ → List ℕ
 upright x height = codes "M" ++ (decimal x ++ (codes " 0V" ++ decimal height))
 
 unfoldable pub level : ℕ → ℕ → List ℕ
 level y width = codes "M0 " ++ (decimal y ++ (codes "H" ++ decimal width))
 
--- so many of them, a step after each other
+-- the paths of n vertical lines from the left, and of n horizontal lines from below, one each `step` leaves
 unfoldable pub uprights : ℕ → ℕ → ℕ → List ℕ
 uprights step height zero = []
 uprights step height (suc n) = uprights step height n ++ upright (product64 n step) height
@@ -54,24 +55,25 @@ unfoldable pub levels : ℕ → ℕ → ℕ → ℕ → List ℕ
 levels step width height zero = []
 levels step width height (suc n) = levels step width height n ++ level (height - product64 n step) width
 
--- the squares of the face
+-- the grid of the face
 abbrev pub squares_text : Frame → List ℕ
 squares_text frame =
     codes "<path class=\"squares\" d=\"" ++ (uprights frame.step frame.height (frame.width / frame.step)
     ++ (levels frame.step frame.width frame.height (frame.height / frame.step) ++ codes "\"/>\n"))
 
--- a cell, with its token
+-- the square of a cell, with the cell's token as its title
 unfoldable pub cell_text : GridSquare → ℕ → List ℕ
 cell_text place id =
     codes "<rect class=\"cell\" x=\"" ++ (decimal place.x ++ (codes "\" y=\"" ++ (decimal place.y
     ++ (codes "\" width=\"" ++ (decimal place.side ++ (codes "\" height=\"" ++ (decimal place.side
     ++ (codes "\"><title>" ++ (token_text id ++ codes "</title></rect>\n")))))))))
 
+-- the squares of the cells, in their order
 abbrev pub cells_text : Frame → List ℕ → List ℕ
 cells_text frame [] = []
 cells_text frame (id ∷ ids) = cell_text (place_of frame id) id ++ cells_text frame ids
 
--- the rectangle as it was asked for
+-- the outline of the rectangle as it was requested
 unfoldable pub asked_text : Frame → RectParts → List ℕ
 asked_text frame rect =
     codes "<rect class=\"asked\" x=\"" ++ (decimal (rect.i_min - frame.i) ++ (codes "\" y=\""
@@ -80,58 +82,60 @@ asked_text frame rect =
     ++ (decimal (sum64 (rect.j_max - rect.j_min) 1) ++ (codes "\" stroke-width=\""
     ++ (decimal (product64 (line_of frame) 2) ++ codes "\"/>\n")))))))))
 
--- a line from the middle of one place to that of another
+-- the path of a line from the centre of one square to the centre of another
 unfoldable pub line_text : GridSquare → GridSquare → List ℕ
 line_text from to =
     codes "M" ++ (decimal (middle_x from) ++ (codes " " ++ (decimal (middle_y from)
     ++ (codes "L" ++ (decimal (middle_x to) ++ (codes " " ++ decimal (middle_y to)))))))
 
--- the curve goes on from one cell to another, with no leaf between them
+-- whether two cells are adjacent on the curve: no leaf is between them
 abbrev pub is_next : ℕ → ℕ → Bool
 is_next from to = sum64 (last_leaf from) 1 == first_leaf to
 
--- the line from a cell to another, if the curve goes on there, or if it doesn't
+-- the line from one cell to another, if they are adjacent and `on`, or are not adjacent and not `on`
 abbrev pub step_text : Frame → Bool → ℕ → ℕ → List ℕ
 step_text frame on from to =
     cond (cond on (is_next from to) (not (is_next from to)))
     (line_text (place_of frame from) (place_of frame to)) []
 
--- such lines from a cell along a list
+-- such lines from the cell `from` along a list of cells
 abbrev pub steps_from : Frame → Bool → ℕ → List ℕ → List ℕ
 steps_from frame on from [] = []
 steps_from frame on from (to ∷ ids) = step_text frame on from to ++ steps_from frame on to ids
 
+-- such lines along a list of cells
 abbrev pub steps_text : Frame → Bool → List ℕ → List ℕ
 steps_text frame on [] = []
 steps_text frame on (id ∷ ids) = steps_from frame on id ids
 
--- the lines of the way end, and those that are dashed begin
+-- the text between the solid path of the curve and the dashed one
 unfoldable pub jumps_start : Frame → List ℕ
 jumps_start frame =
     codes "\"/>\n<path class=\"jump\" stroke-dasharray=\"" ++ (decimal (product64 (line_of frame) 4)
     ++ codes "\" d=\"")
 
--- the way of the curve from cell to cell, dashed where it goes through leaves of no cell
+-- the curve from cell to cell: solid between adjacent cells, dashed between the others
 abbrev pub curve_text : Frame → List ℕ → List ℕ
 curve_text frame ids =
     codes "<path class=\"way\" d=\"" ++ (steps_text frame true ids
     ++ (jumps_start frame ++ (steps_text frame false ids ++ codes "\"/>\n")))
 
--- the part of the face ends, and what its lines mean begins
+-- the text between the face and the legend
 unfoldable pub legend_start : Frame → List ℕ
 legend_start frame =
     codes "</svg>\n<g transform=\"translate(0 " ++ (decimal (tall_of frame)
     ++ codes ")\" stroke-width=\"2\">\n")
 
--- the end of the picture
+-- the text after the curve: the end of the face, and the legend
 abbrev pub tail_text : Frame → List ℕ
 tail_text frame = legend_start frame ++ (LEGEND.now ++ codes "</g>\n</svg>\n")
 
+-- the whole text of a picture
 abbrev pub picture_text : Frame → RectParts → List ℕ → List ℕ
 picture_text frame rect ids =
     head_text frame rect ++ (squares_text frame ++ (cells_text frame ids ++ (asked_text frame rect
     ++ (curve_text frame ids ++ tail_text frame))))
 
--- a text is the picture of a rectangle with these cells
+-- a text is the picture of a rectangle and of these cells
 abbrev pub IsPicture : RectParts → List ℕ → List ℕ → Type 0
 IsPicture rect ids text = (frame : Frame) × (IsFrame rect frame × (text ≡ picture_text frame rect ids))

@@ -27,7 +27,7 @@ pub(crate) struct Frame {
     pub(crate) step: u64,
 }
 
-/// A square of leaves in a picture: `x` and `y` are the leaves to the left of it and above it.
+/// A square in a picture, in leaves: `x` leaves are to the left of it, `y` above it, and its side is `side`.
 #[derive(Clone, Copy)]
 pub(crate) struct GridSquare {
     pub(crate) x: u64,
@@ -36,8 +36,8 @@ pub(crate) struct GridSquare {
 }
 
 impl Frame {
-    /// The part of the face around `rect`: a margin of a quarter of its longer side, or of one square of the
-    /// grid if that is more, but nothing beyond the face.
+    /// The part of the face around `rect`: with a margin of a quarter of its longer side, or of one square of
+    /// the grid if that is more, widened to whole squares of the grid, and cut at the edge of the face.
     pub(crate) fn around(rect: &Rect) -> Frame
         ensures frame { IsFrame rect.now result }
         ensures step { 0 < result.step }
@@ -58,7 +58,7 @@ impl Frame {
         }
     }
 
-    /// The square of `cell` in the picture.
+    /// The square of `cell` in the picture, in leaves: `y` counts down from the upper edge, as in SVG.
     pub(crate) fn place_of(&self, cell: &CellId) -> GridSquare
         ensures { result ≡ spec.place_of self.now cell.now }
     {
@@ -73,14 +73,14 @@ impl Frame {
         }
     }
 
-    /// The width of a line of one pixel, in leaves; at least 1.
+    /// The width of a line that is about one pixel wide, in leaves; at least 1.
     pub(crate) fn line_width(&self) -> u64
         ensures { result ≡ spec.line_of self.now }
     {
         (self.width / WIDTH).max(1)
     }
 
-    /// The height of the face's part in the picture, in pixels.
+    /// The height of the face's part in the picture, in pixels. 0 if the frame has no width.
     pub(crate) fn pixel_height(&self) -> u64
         ensures { result ≡ spec.tall_of self.now }
     {
@@ -104,8 +104,8 @@ fn side_of(level: u8) -> u64
     1 << LEAF_LEVEL.saturating_sub(level)
 }
 
-// The side of the grid's squares along `length` leaves: `side`, or the power of two above it at which about
-// `SQUARES` squares are drawn.
+// The side of the grid's squares, in leaves: the power of two at which about `SQUARES` squares lie along
+// `length` leaves, but at least `side`.
 fn grid_step(length: u64, side: u64) -> u64
     requires { 0 < side }
     ensures step { IsStep length side result }
@@ -123,8 +123,8 @@ fn round_down(number: u64, step: u64) -> u64
     number.saturating_sub(number % step)
 }
 
-// The least coordinate that is shown, and how many are: `least` to `greatest` with a margin on both sides,
-// widened to whole squares of the grid and cut at the edge of the face.
+// The coordinates that are shown, as the least one and their number: `least` to `greatest` with `margin` on
+// both sides, widened to whole squares of the grid (`step`) and cut at the edge of the face.
 fn visible_range(least: u32, greatest: u32, margin: u64, step: u64) -> (u64, u64)
     requires { 0 < step }
     ensures from { result.0 ≡ shown_from least margin step }
@@ -139,7 +139,7 @@ fn visible_range(least: u32, greatest: u32, margin: u64, step: u64) -> (u64, u64
 }
 
 impl GridSquare {
-    /// The centre of the square.
+    /// The centre of the square, as its `x` and its `y`, in leaves.
     pub(crate) fn middle(self) -> (u64, u64)
         ensures x { result.0 ≡ spec.middle_x self }
         ensures y { result.1 ≡ spec.middle_y self }

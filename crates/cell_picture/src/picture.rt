@@ -54,7 +54,7 @@ pub fn picture_of(alloc: Global, rect: &Rect, cells: &[CellId]) -> Result<String
 }
 
 // The text before the grid: the start of the SVG, its title and style, and the start and background of the
-// face.
+// face. The SVG is as high as the face and the legend.
 fn picture_start(alloc: Global, frame: &Frame, rect: &Rect) -> Result<String, AllocError>
     ensures { IfOk result (λ text. string_bytes text ≡ spec.head_text frame.now rect.now) }
 {
@@ -66,17 +66,17 @@ fn picture_start(alloc: Global, frame: &Frame, rect: &Rect) -> Result<String, Al
     Ok(text)
 }
 
-// The start tag of a picture that is `whole` pixels high.
+// The start tag of a picture that is `WIDTH` pixels wide and `height` pixels high.
 #[tactic(auto, unfolding(crate::specs::Picture::opening_text))]
-fn svg_start(alloc: Global, whole: u64) -> Result<String, AllocError>
-    ensures { IfOk result (λ text. string_bytes text ≡ spec.opening_text whole) }
+fn svg_start(alloc: Global, height: u64) -> Result<String, AllocError>
+    ensures { IfOk result (λ text. string_bytes text ≡ spec.opening_text height) }
 {
     format!(in alloc;
-        "<svg xmlns=\"http://www.w3.org/2000/svg\" width=\"{WIDTH}\" viewBox=\"0 0 {WIDTH} {whole}\">\n"
+        "<svg xmlns=\"http://www.w3.org/2000/svg\" width=\"{WIDTH}\" viewBox=\"0 0 {WIDTH} {height}\">\n"
     )
 }
 
-// The start tag of the nested SVG that shows the face. Its coordinates count leaves.
+// The start tag of the nested SVG that shows the face: its size in pixels, and its coordinates in leaves.
 #[tactic(auto, unfolding(crate::specs::Picture::part_start))]
 fn part_start(alloc: Global, frame: &Frame) -> Result<String, AllocError>
     ensures { IfOk result (λ text. string_bytes text ≡ spec.part_start frame.now) }
@@ -90,7 +90,7 @@ fn part_start(alloc: Global, frame: &Frame) -> Result<String, AllocError>
     )
 }
 
-// The background of the face.
+// The background of the face: a rectangle as large as the frame.
 #[tactic(auto, unfolding(crate::specs::Picture::face_text))]
 fn background(alloc: Global, frame: &Frame) -> Result<String, AllocError>
     ensures { IfOk result (λ text. string_bytes text ≡ spec.face_text frame.now) }
@@ -125,7 +125,7 @@ fn picture_end(alloc: Global, frame: &Frame) -> Result<String, AllocError>
     Ok(text)
 }
 
-// The grid of the face: squares with sides of `frame.step` leaves.
+// The grid of the face: the lines between squares with sides of `frame.step` leaves, as one path.
 fn grid_lines(alloc: Global, frame: &Frame) -> Result<String, AllocError>
     requires { 0 < frame.now.step }
     ensures { IfOk result (λ text. string_bytes text ≡ spec.squares_text frame.now) }
@@ -143,7 +143,7 @@ fn grid_lines(alloc: Global, frame: &Frame) -> Result<String, AllocError>
     Ok(text)
 }
 
-// The vertical lines of a grid with this `step`, from left to right.
+// The vertical lines of a grid that is `width` leaves wide, one each `step` leaves, from left to right.
 fn vertical_lines(alloc: Global, width: u64, height: u64, step: u64) -> Result<String, AllocError>
     requires { 0 < step }
     ensures { IfOk result (λ text. string_bytes text ≡ spec.uprights step height (width / step)) }
@@ -156,6 +156,7 @@ fn vertical_lines(alloc: Global, width: u64, height: u64, step: u64) -> Result<S
     Ok(text)
 }
 
+// The path of a vertical line at `x`, from the upper edge down to `height`.
 #[tactic(auto, unfolding(crate::specs::Picture::upright))]
 fn vertical_line(alloc: Global, x: u64, height: u64) -> Result<String, AllocError>
     ensures { IfOk result (λ text. string_bytes text ≡ spec.upright x height) }
@@ -163,7 +164,7 @@ fn vertical_line(alloc: Global, x: u64, height: u64) -> Result<String, AllocErro
     format!(in alloc; "M{x} 0V{height}")
 }
 
-// The horizontal lines of a grid with this `step`, from the lower edge up.
+// The horizontal lines of a grid that is `height` leaves high, one each `step` leaves, from the bottom up.
 fn horizontal_lines(alloc: Global, width: u64, height: u64, step: u64) -> Result<String, AllocError>
     requires { 0 < step }
     ensures { IfOk result (λ text. string_bytes text ≡ spec.levels step width height (height / step)) }
@@ -176,6 +177,7 @@ fn horizontal_lines(alloc: Global, width: u64, height: u64, step: u64) -> Result
     Ok(text)
 }
 
+// The path of a horizontal line at `y`, from the left edge to `width`.
 #[tactic(auto, unfolding(crate::specs::Picture::level))]
 fn horizontal_line(alloc: Global, y: u64, width: u64) -> Result<String, AllocError>
     ensures { IfOk result (λ text. string_bytes text ≡ spec.level y width) }
@@ -207,7 +209,7 @@ fn cell_square(alloc: Global, frame: &Frame, cell: &CellId) -> Result<String, Al
     )
 }
 
-// The outline of the rectangle as it was requested, not widened to whole squares.
+// The outline of the rectangle as it was requested, not widened to whole squares of its level.
 #[tactic(auto, unfolding(crate::specs::Picture::asked_text))]
 fn requested_rectangle(alloc: Global, frame: &Frame, rect: &Rect) -> Result<String, AllocError>
     ensures { IfOk result (λ text. string_bytes text ≡ spec.asked_text frame.now rect.now) }
@@ -223,7 +225,8 @@ fn requested_rectangle(alloc: Global, frame: &Frame, rect: &Rect) -> Result<Stri
     )
 }
 
-// The curve from cell to cell: dashed between cells that aren't adjacent on the curve.
+// The curve from cell to cell: a solid path between cells that are adjacent on the curve, and a dashed one
+// between the others.
 fn curve_lines(alloc: Global, frame: &Frame, cells: &[CellId]) -> Result<String, AllocError>
     ensures { IfOk result (λ text. string_bytes text ≡ spec.curve_text frame.now cells.now) }
 {
@@ -254,7 +257,7 @@ fn lines_along(
     }
 }
 
-// These lines along `first` and then `others`.
+// The lines of `lines_along` from the cell `first` along `others`, in their order.
 fn lines_from(
     alloc: Global,
     frame: &Frame,
@@ -297,7 +300,7 @@ fn line_if_drawn(
     }
 }
 
-// A line from the centre of one square to the centre of another.
+// The path of a line from the centre of the square `from` to the centre of the square `to`.
 #[tactic(auto, unfolding(crate::specs::Picture::line_text))]
 fn line_between(alloc: Global, from: GridSquare, to: GridSquare) -> Result<String, AllocError>
     ensures { IfOk result (λ text. string_bytes text ≡ spec.line_text from to) }

@@ -1,4 +1,4 @@
--- Copies: what it means that the arguments of two desks are the same.
+-- Copies: when the arguments of two desks are the same.
 use Rattle.std.specs.Prelude.{◌≡◌, option_map, string_bytes}
 use Rattle.desk_cli.specs.Lines.{file_of}
 use Rattle.desk_cli.specs.declared.line.DeskArgs.{DeskArgs}

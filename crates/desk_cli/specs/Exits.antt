@@ -20,7 +20,7 @@ use Rattle.desk_cli.specs.declared.failure.ErrorCode.TheVariants as failure
 use Rattle.desk_cli.specs.declared.failure.ExitReport.{ExitReport}
 use Rattle.desk_cli.specs.Written.{HasBegun, HasWritten}
 
--- 2 for the words, 3 for the input, 4 for the rest
+-- the exit status: 2 for the arguments, 3 for the input, 4 for the rest
 abbrev pub failure_status : ErrorCode → ℕ
 failure_status failure.Value = 2
 failure_status failure.Unframed = 3
@@ -42,18 +42,21 @@ failure_status failure.DamagedLog = 4
 failure_status failure.NoRecord = 3
 failure_status failure.Differs = 3
 
+-- the error code of a text that is no S2 token
 abbrev pub token_word : TokenFault → List ℕ
 token_word token.Empty = codes "empty"
 token_word token.TooLong = codes "too_long"
 token_word token.NotHex = codes "not_hex"
 token_word token.NotACell = codes "not_a_cell"
 
+-- the error code of numbers that are no rectangle
 abbrev pub rect_word : RectFault → List ℕ
 rect_word rect.Face = codes "face"
 rect_word rect.Coordinate = codes "coordinate"
 rect_word rect.Order = codes "order"
 rect_word rect.Level = codes "level"
 
+-- the error code as it is printed
 abbrev pub failure_word : ErrorCode → List ℕ
 failure_word failure.Value = codes "value"
 failure_word failure.Unframed = codes "unframed"
@@ -79,69 +82,71 @@ failure_word failure.Differs = codes "differs"
 abbrev pub failure_line : ErrorCode → List ℕ
 failure_line f = (codes "uss_desk: " ++ failure_word f) ++ codes "\n"
 
--- 0 if nothing failed
+-- the exit status of a result: 0 if nothing failed
 abbrev pub exit_status : {A : Type 0} → Result A ErrorCode → ℕ
 exit_status (Ok done) = 0
 exit_status (Err failure) = failure_status failure
 
--- how a line ended: its exit status, whether the line of its failure was broken off, and what the error
--- writer held before and holds now
+-- how a command ended: its exit status, whether the line with its error code was cut off by a failed write,
+-- and what the error writer held before and holds now
 pub record Ending : Type 0 where
   pub status : ℕ
   pub cut : Bool
   pub before : Option (List ℕ)
   pub now : Option (List ℕ)
 
+-- the end of a command, by its exit report and by what the error writer held before and holds now
 abbrev pub ending : {E : Type 0} → ExitReport E → Option (List ℕ) → Option (List ℕ) → Ending
 ending exit before now =
     record { status = exit.status; cut = is_some exit.cut; before = before; now = now }
 
--- the line of a failure is written, or a beginning of it if a write broke off; and nothing if nothing failed
+-- after a failure the line with its error code is written, or, if `cut`, a beginning of it; else nothing is.
+-- `out` is what the writer held before
 abbrev pub IsConcluded :
     {A : Type 0} → Result A ErrorCode → Bool → Option (List ℕ) → Option (List ℕ) → Type 0
 IsConcluded (Ok done) cut out now = (cut ≡ false) × (now ≡ out)
 IsConcluded (Err f) cut out now = HasWritten cut (failure_line f) out now
 
--- a line ended with what was done: the exit status and the line of the failure are of one failure
+-- a command ended with the result `done`: the exit status and the printed error code are those of `done`
 abbrev pub EndsWith : {A : Type 0} → Result A ErrorCode → Ending → Type 0
 EndsWith done end = (end.status ≡ exit_status done) × IsConcluded done end.cut end.before end.now
 
--- nothing is said of how a line ended
+-- no error code was printed
 abbrev pub IsSilent : Ending → Type 0
 IsSilent end = (end.cut ≡ false) × (end.now ≡ end.before)
 
--- a line ended well
+-- a command ended with the status 0, and no error code was printed
 abbrev pub EndsWell : Ending → Type 0
 EndsWell end = (end.status ≡ 0) × IsSilent end
 
--- a line ended with this failure
+-- a command ended with the status of this failure, and its error code was printed, perhaps cut off
 abbrev pub FailsWith : ErrorCode → Ending → Type 0
 FailsWith f end = (end.status ≡ failure_status f) × HasWritten end.cut (failure_line f) end.before end.now
 
--- a line is printed, by whether it ended with a failure: whole, or not at all before a failure, or cut off by
--- the failure of a write
+-- a line is printed whole if the result is Ok; after a failure it is printed whole or not at all, or, if the
+-- failure is that of a write, cut off
 abbrev pub IsAnnounced :
     {A : Type 0} → Result A ErrorCode → List ℕ → Option (List ℕ) → Option (List ℕ) → Type 0
 IsAnnounced (Ok done) line out now = Appends out now line
 IsAnnounced (Err f) line out now =
     Appends out now line ⊎ (now ≡ out) ⊎ ((f ≡ failure.Write) × HasBegun line out now)
 
--- what a line ends with if an enrolment isn't made and was not refused: memory ran out, or the store failed
+-- what stops an enrolment of a valid operator: memory ran out, or the store failed
 abbrev pub IsLineBreakdown : ErrorCode → Type 0
 IsLineBreakdown f = (f ≡ failure.Memory) ⊎ (f ≡ failure.Store)
 
--- a line ended so
+-- a command ended so
 abbrev pub IsBrokenDown : Ending → Type 0
 IsBrokenDown end = FailsWith failure.Memory end ⊎ FailsWith failure.Store end
 
--- what a request without a whole answer means
+-- the error code of a request that got no whole answer
 abbrev pub serving_failure : ServeFault → ErrorCode
 serving_failure serve.Read = failure.Read
 serving_failure (serve.Write sent) = failure.Write
 serving_failure serve.CutShort = failure.CutShort
 serving_failure serve.OutOfMemory = failure.Memory
 
--- what the end of a run over the input means; none if the input came to its end
+-- the error code of a run over the input; None if the run ended with the input
 abbrev pub failure_after : PlayEnd → Option ErrorCode
 failure_after play.End = None
 failure_after play.Unframed = Some failure.Unframed
@@ -149,7 +154,7 @@ failure_after play.Broken = Some failure.Broken
 failure_after play.Limit = Some failure.Limit
 failure_after (play.Fault fault) = Some (serving_failure fault)
 
--- what a refused enrolment means
+-- the error code of an enrolment that failed
 abbrev pub enrolment_failure : DeskFault → ErrorCode
 enrolment_failure desk.OutOfMemory = failure.Memory
 enrolment_failure desk.Store = failure.Store
@@ -157,12 +162,12 @@ enrolment_failure desk.UnknownOperator = failure.Value
 enrolment_failure desk.NoSuchPlan = failure.Value
 enrolment_failure desk.Ceiling = failure.Value
 
--- what a rectangle without a cover means
+-- the error code of a rectangle for which no cover was made
 abbrev pub cover_failure : CoverFault → ErrorCode
 cover_failure (cover.TooManyCells looked) = failure.TooManyCells
 cover_failure cover.OutOfMemory = failure.Memory
 
--- why a desk at a port ends after what came of a connection's request; none if it goes on
+-- why the desk at a port stops after the request of a connection; None if it goes on
 abbrev pub failure_at : Result Served ServeFault → Option ErrorCode
 failure_at (Ok (Answered status framed)) = if status == 500 then Some failure.Broken else None
 failure_at (Ok End) = None

@@ -11,14 +11,14 @@ use Rattle.desk_cli.specs.declared.command.Form.{Form}
 use Rattle.desk_cli.specs.declared.command.ArgKind.{ArgKind}
 use Rattle.desk_cli.specs.declared.command.ArgKind.TheVariants as kind
 
--- a rule whose values are of a kind
+-- a rule, with the kind of its value added
 abbrev pub of_kind : ArgKind → Rule → Rule
 of_kind kind.Text rule = rule
 of_kind kind.Texts rule = record rule { action = Some Append }
 of_kind (kind.Number least most) rule = record rule { parser = Some (Signed least most) }
 of_kind kind.Flag rule = record rule { action = Some SetTrue }
 
--- what a row says of an argument of whatever kind
+-- the rule of a row, without the kind of its value
 abbrev pub bare_rule : ArgRow → Rule
 bare_rule row = record (new_rule row.id.now) {
   long = option_map (λ long. long.now) row.long;
@@ -26,8 +26,10 @@ bare_rule row = record (new_rule row.id.now) {
   required = row.is_required;
 }
 
+-- the rule of a row: one argument
 abbrev pub rule_of_row : ArgRow → Rule
 rule_of_row row = of_kind row.kind (bare_rule row)
 
+-- the shape of a command: its name and the rules of its arguments
 abbrev pub shape_of_form : Form → Shape
 shape_of_form form = line_shape form.name.now (map rule_of_row form.words.now)

@@ -105,11 +105,11 @@ picture = record (new_rule (codes "picture")) { long = Some (codes "svg"); actio
 abbrev pub until : Rule
 until = number_between 0 max_second (option (codes "until") (codes "until"))
 
--- a line: its first word, and its further words
+-- the shape of a command: its name, and the rules of its arguments
 abbrev pub line_shape : Text → List Rule → Shape
 line_shape name rules = record (new_shape name) { rules = rules }
 
--- the lines that the program takes
+-- the commands that the program has, in the order of the help
 abbrev pub line_shapes : List Shape
 line_shapes =
     line_shape (codes "play") (database ∷ moment ∷ equal ∷ spans ∷ cells ∷ record_folder ∷ enrolments
@@ -128,14 +128,14 @@ line_shapes =
     ∷ line_shape (codes "replay") (needed database ∷ until ∷ [])
     ∷ []
 
--- a program that takes no line: `--version` and `--help` are answered
+-- the program without commands: it has a name, it has a version, and it requires a command
 abbrev pub bare_program : App
 bare_program = record {
   top = record (new_shape (codes "uss_desk")) { has_version = true; subcommand_required = true };
   subs = [];
 }
 
--- the program that takes these lines
+-- the program with these commands
 abbrev pub with_lines : List Shape → App
 with_lines lines = fold with_subcommand bare_program lines
 
@@ -144,60 +144,63 @@ program = with_lines line_shapes
 
 -- ---- the values
 
--- a text writes a number, in digits behind a sign that may be there
+-- a text is the decimal number n, perhaps with a plus sign
 abbrev pub WritesNumber : ℕ → Text → Type 0
 WritesNumber n text =
     IsNumeral 10 (without_leading_plus text) × (n ≡ digits_value 10 (without_leading_plus text))
 
+-- a text is the decimal integer z, perhaps with a sign
 abbrev pub WritesInteger : ℤ → Text → Type 0
 WritesInteger z text = IsNumeral 10 (without_leading_sign text) × (z ≡ signed_digits_value 10 text)
 
--- the number that was given
+-- n is the number that the argument `id` has; it was given once
 abbrev pub IsNumberGiven : Text → List Row → ℕ → Type 0
 IsNumberGiven id rows n = IsSomeAnd (one_of id rows) (WritesNumber n)
 
 abbrev pub IsIntegerGiven : Text → List Row → ℤ → Type 0
 IsIntegerGiven id rows z = IsSomeAnd (one_of id rows) (WritesInteger z)
 
--- the number that was given, or none if none was
+-- the number that the argument `id` has; None if the argument is missing
 abbrev pub IsNumberOrNone : Text → List Row → Option ℕ → Type 0
 IsNumberOrNone id rows None = one_of id rows ≡ None
 IsNumberOrNone id rows (Some n) = IsNumberGiven id rows n
 
--- the most of something, by its name, up to the greatest number that may be named
+-- the limit that the option `id` has, from `min_limit` to `greatest`; None if the option is missing
 abbrev pub IsMostOf : Text → ℕ → List Row → Option ℕ → Type 0
 IsMostOf id greatest rows most = IfSome most (IsInRange min_most greatest) × IsNumberOrNone id rows most
 
--- the most spans that an operator's live plans may have, and the most cells that all its plans may have
+-- the limit on the spans of an operator's live plans, and the limit on the cells of all its plans
 abbrev pub AreMostSpans : List Row → Option ℕ → Type 0
 AreMostSpans rows most = IsMostOf (codes "spans") max_spans rows most
 
 abbrev pub AreMostCells : List Row → Option ℕ → Type 0
 AreMostCells rows most = IsMostOf (codes "cells") max_total_cells rows most
 
--- the terms of a desk
+-- the settings of a desk that the arguments give
 pub record AreTermsOf (rows : List Row) (terms : Terms) : Type 0 where
   pub permitted : ArePermittedBy (first_of (codes "equal") rows) terms.permitted
   pub spans : AreMostSpans rows terms.spans
   pub cells : AreMostCells rows terms.cells
 
--- the flag was given
+-- whether the flag `id` was given
 abbrev pub is_given : Text → List Row → Bool
 is_given id rows = option_map_or (λ text. bytes_eq text (codes "true")) (one_of id rows) false
 
+-- the file of the database that was given; None if it is in memory
 abbrev pub file_given : List Row → Option Text
 file_given rows = named_file (first_of (codes "database") rows)
 
--- an operator of this name, under this ceiling
+-- the enrolment of an operator by the texts of its name and its ceiling; None if either is malformed
 abbrev pub enrolment_by : Text → Text → Option Enrolment
 enrolment_by name ceiling =
     if is_operator_name name
     then option_map (λ n. record { operator = name; ceiling = n }) (priority_in ceiling) else None
 
--- `NAME=CEILING`, parted at its first `=`
+-- a byte is `=`
 abbrev pub is_equals : ℕ → Bool
 is_equals byte = byte == 61
 
+-- the enrolment of a text `NAME=CEILING`, split at its first `=`; None if it is malformed
 unfoldable pub enrolment_in : Text → Option Enrolment
 enrolment_in text =
     option_and_then (λ place. enrolment_by (take place text) (drop (place + 1) text))
@@ -224,7 +227,7 @@ pub record IsDeskGiven (rows : List Row) (file : Option Text) (desk : DeskArgs) 
   pub operators : option_map string_bytes desk.operators ≡ file
   pub folder : option_map string_bytes desk.folder ≡ first_of (codes "record") rows
 
--- the desk of `enrol`, at which nothing is set
+-- the desk of `enrol`, without settings and enrolments
 pub record IsBareDeskGiven (rows : List Row) (desk : DeskArgs) : Type 0 where
   pub database : file_of desk.database ≡ file_given rows
   pub terms : desk.terms ≡ no_terms
@@ -289,11 +292,11 @@ HasGiven rows (line.Copy copy) = IsCopyGiven rows copy
 HasGiven rows (line.Migrate file) = file_of file ≡ file_given rows
 HasGiven rows (line.Replay replay) = IsReplayGiven rows replay
 
--- the line of a name, with its numbers in range
+-- a command line of this name has these arguments, and its numbers are in range
 abbrev pub IsLineOf : Text → List Row → Line → Type 0
 IsLineOf name rows it = IsLine it × (name_of it ≡ name) × HasGiven rows it
 
--- the line that these words are, the first of them the program's own name
+-- these words, the first of them the program's own name, give this command line
 pub record IsGiven (words : List Text) (it : Line) : Type 0 where
   pub rows : List Row
   pub found : subcommand_of program words ≡ Some (name_of it, rows)
@@ -301,20 +304,21 @@ pub record IsGiven (words : List Text) (it : Line) : Type 0 where
 
 -- ---- why words are no line
 
--- a `Value` that is refused: there is none that was given. It is the only fault but want of memory
+-- the result is a `Value` fault only if no value satisfies `Is`; it may also be OutOfMemory, never `Words`
 abbrev pub RefusesOnlyWithout : {A B : Type 0} → (B → Type 0) → Result A WordsFault → Type 0
 RefusesOnlyWithout Is (Ok value) = ⊤
 RefusesOnlyWithout Is (Err fault.OutOfMemory) = ⊤
 RefusesOnlyWithout Is (Err (fault.Words error)) = ⊥
 RefusesOnlyWithout {A} {B} Is (Err fault.Value) = (value : B) → Is value → ⊥
 
--- `clap` doesn't take the words, and memory did not run out
+-- why `clap` gave no arguments: memory ran out, or `clap` refused the words
 abbrev pub IsUntaken : List Text → WordsFault → Type 0
 IsUntaken words fault.OutOfMemory = ⊤
 IsUntaken words (fault.Words error) = (takes program words ≢ true) × (kind_of error ≢ kind.OutOfMemory)
 IsUntaken words fault.Value = ⊥
 
--- `clap` doesn't take them; or, if it does, they are no line whose numbers are in range
+-- why a command line is refused: memory ran out, `clap` refused the words, or, for `Value`, no command line
+-- with numbers in range is given by them
 abbrev pub AreWordsRefused : List Text → WordsFault → Type 0
 AreWordsRefused words fault.OutOfMemory = ⊤
 AreWordsRefused words (fault.Words error) = IsUntaken words (fault.Words error)

@@ -31,45 +31,46 @@ min_connections = 1
 abbrev pub max_connections : ℕ
 max_connections = 1000000
 
--- the least number that may be named as the most spans or the most cells of an operator's plans
+-- the least limit on the spans or the cells of an operator's plans
 abbrev pub min_most : ℕ
 min_most = 1
 
--- the file of a database; none if it is in memory
+-- the path of a database's file; None if the database is in memory
 abbrev pub file_of : Database → Option (List ℕ)
 file_of InMemory = None
 file_of (File path) = Some (string_bytes path)
 
--- the file that a word names, if there is a word
+-- the path that a word names; None if there is no word, or it is `:memory:`
 abbrev pub named_file : Option (List ℕ) → Option (List ℕ)
 named_file None = None
 named_file (Some word) = if bytes_eq word (codes ":memory:") then None else Some word
 
+-- each ceiling is at most 1,000
 abbrev pub AreEnrolments : List Enrolment → Type 0
 AreEnrolments enrolments = All (λ e. e.ceiling ≤ max_priority) enrolments
 
--- the numbers of `play`
+-- the numbers of `play` are in range
 abbrev pub IsPlay : PlayArgs → Type 0
 IsPlay play = AreEnrolments play.desk.enrolments.items
 
--- the numbers of `serve`
+-- the numbers of `serve` are in range
 pub record IsServe (serve : ServeArgs) : Type 0 where
   pub port : IsInRange min_port max_port serve.port
   pub connections : IsInRange min_connections max_connections serve.connections
   pub enrolments : AreEnrolments serve.desk.enrolments.items
 
--- the numbers of `enrol`
+-- the ceiling of `enrol` is in range
 abbrev pub IsEnrol : EnrolArgs → Type 0
 IsEnrol enrol = enrol.enrolment.ceiling ≤ max_priority
 
--- the numbers of `cover`: one of 8 bits, or of 32
+-- the greatest numbers of 8 and of 32 bits
 abbrev pub max_small : ℕ
 max_small = 255
 
 abbrev pub max_coordinate : ℕ
 max_coordinate = 4294967295
 
--- the numbers of `cover`
+-- the numbers of `cover` fit their types
 pub record IsCover (cover : CoverArgs) : Type 0 where
   pub face : cover.face ≤ max_small
   pub i_min : cover.i_min ≤ max_coordinate
@@ -78,11 +79,11 @@ pub record IsCover (cover : CoverArgs) : Type 0 where
   pub j_max : cover.j_max ≤ max_coordinate
   pub level : cover.level ≤ max_small
 
--- the last second that is played
+-- the last second that is replayed, if there is one, is a moment
 abbrev pub IsMomentIfGiven : Option ℕ → Type 0
 IsMomentIfGiven until = IfSome until (λ n. IsMoment (pos n))
 
--- the numbers of `replay`
+-- the number of `replay` is in range
 abbrev pub IsReplay : ReplayWords → Type 0
 IsReplay replay = IsMomentIfGiven replay.until
 
@@ -95,7 +96,7 @@ IsLine (Enrol enrol) = IsEnrol enrol
 IsLine (Replay replay) = IsReplay replay
 IsLine _ = ⊤
 
--- the line of a command at a desk, and its desk
+-- the command line of a command at a desk, and the arguments of its desk
 abbrev pub line_of : DeskCommand → Line
 line_of (action.Play play) = Play play.now
 line_of (action.Serve serve) = Serve serve.now

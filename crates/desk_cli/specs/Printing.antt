@@ -26,11 +26,12 @@ cell_line id =
     ++ (codes " leaves " ++ (token_text (first_leaf_id id) ++ (codes " " ++ (token_text (last_leaf_id id)
     ++ codes "\n"))))))))
 
--- what is said of a text: the line of its cell, or that it is no token
+-- the result of `token`: the line of the cell, or the failure that the text is no token
 abbrev pub reported_of_token : Result ℕ TokenFault → Result (List ℕ) ErrorCode
 reported_of_token (Ok id) = Ok (cell_line id)
 reported_of_token (Err fault) = Err (failure.Token fault)
 
+-- the numbers of a rectangle, as the arguments of `cover` give them
 abbrev pub rect_parts : CoverArgs → RectParts
 rect_parts words = record {
   face = words.face;
@@ -41,12 +42,12 @@ rect_parts words = record {
   level = words.level;
 }
 
--- each token on a line
+-- the token of each cell on its own line
 abbrev pub token_lines : List ℕ → List ℕ
 token_lines [] = []
 token_lines (id ∷ ids) = token_text id ++ (codes "\n" ++ token_lines ids)
 
--- the same, then how many cells and ranges they are
+-- the same, then the line with the numbers of cells and of ranges
 unfoldable pub cover_lines : List ℕ → ℕ → List ℕ
 cover_lines ids ranges =
     token_lines ids
@@ -65,38 +66,39 @@ pub record IsCoverText (set : ℕ → Bool) (text : List ℕ) : Type 0 where
 abbrev pub IsLong : (ℕ → Bool) → Type 0
 IsLong set = (ids : List ℕ) × (IsCanonical set ids × (max_cover < length ids))
 
--- what is said of a rectangle: the lines of its cover, a picture, or why there is none
+-- the result of `cover`, where `picture` says whether a picture was asked for: the lines of the cover, a
+-- picture (any text: the contracts of cell_picture say which), or the failure if there is no cover
 abbrev pub IsRectReported : Bool → Result RectParts RectFault → Result (List ℕ) ErrorCode → Type 0
 IsRectReported picture (Err fault) reported = reported ≡ Err (failure.Rect fault)
 IsRectReported picture (Ok rect) (Err f) = (f ≡ failure.TooManyCells) × IsLong (rect_leaves rect)
 IsRectReported true (Ok rect) (Ok text) = ⊤
 IsRectReported false (Ok rect) (Ok text) = IsCoverText (rect_leaves rect) text
 
--- a line that is printed
+-- the command line is `token` or `cover`
 abbrev pub IsPrinting : Line → Type 0
 IsPrinting (line.Token token) = ⊤
 IsPrinting (line.Cover words) = ⊤
 IsPrinting _ = ⊥
 
--- what is said of a line
+-- the result of `token` or `cover`
 abbrev pub IsTextOf : Line → Result (List ℕ) ErrorCode → Type 0
 IsTextOf (line.Token token) reported = reported ≡ reported_of_token (read_token (string_bytes token))
 IsTextOf (line.Cover words) reported
     = IsRectReported words.is_picture (rect_or_fault (rect_parts words)) reported
 IsTextOf _ reported = ⊥
 
--- memory ran out and nothing is printed, or a write failed after a beginning of what is reported
+-- memory ran out and nothing is printed, or a write failed after a beginning of the result was printed
 abbrev pub IsPrintingGivenUp : Line → ErrorCode → Option (List ℕ) → Option (List ℕ) → Type 0
 IsPrintingGivenUp line f out now = ((f ≡ failure.Memory) × (now ≡ out))
     ⊎ ((f ≡ failure.Write) × ((text : List ℕ) × IsTextOf line (Ok text) × HasBegun text out now))
 
--- what came of a line: what is said of it is printed, or it has a failure and nothing is printed, or it
--- is given up
+-- what is printed: the result; nothing, if the result is a failure; or what was printed until memory ran out
+-- or a write failed
 abbrev pub IsShown : Line → Result ⊤ ErrorCode → Option (List ℕ) → Option (List ℕ) → Type 0
 IsShown line (Ok done) out now = (text : List ℕ) × IsTextOf line (Ok text) × Appends out now text
 IsShown line (Err f) out now = IsPrintingGivenUp line f out now ⊎ (IsTextOf line (Err f) × (now ≡ out))
 
--- what a line prints, and how it ends
+-- what `token` or `cover` prints, and how it ends
 pub record IsPrinted (line : Line) (end : Ending) (out now : Option (List ℕ)) : Type 0 where
   pub done : Result ⊤ ErrorCode
   pub ends : EndsWith done end

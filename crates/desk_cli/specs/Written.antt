@@ -1,4 +1,4 @@
--- Written: what a writer has taken of some bytes.
+-- Written: how much of some bytes a writer took; `out` is what it held before, `now` what it holds now.
 use Rattle.std.specs.Prelude.{◌≡◌, ◌≢◌, ℕ, Bool, true, false, List, [], ◌++◌, Option}
 use Rattle.std.specs.Io.KnownBytes.{Appends}
 
@@ -10,7 +10,7 @@ pub record HasBegun (bytes : List ℕ) (out now : Option (List ℕ)) : Type 0 wh
   pub left : rest ≢ []
   pub written : Appends out now begun
 
--- all of the bytes are written; or, if that was cut off by a write, a beginning
+-- by whether a failed write cut them off: all of the bytes are written, or a beginning
 abbrev pub HasWritten : Bool → List ℕ → Option (List ℕ) → Option (List ℕ) → Type 0
 HasWritten false bytes out now = Appends out now bytes
 HasWritten true bytes out now = HasBegun bytes out now

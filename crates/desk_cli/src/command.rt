@@ -44,7 +44,7 @@ enum ArgKind {
     Text,
     // Any number of texts, one for each use.
     Texts,
-    // A number from the first to the second.
+    // A number from the least, which comes first, to the greatest.
     Number(i64, i64),
     // No value: only whether the argument is given.
     Flag,
@@ -318,14 +318,14 @@ static FORMS: [Form; 9] = [
     },
 ];
 
-/// The program's command line, for `clap`.
+/// The program's command line, for `clap`. An error if memory runs out.
 pub fn make_command<'a>(alloc: Global) -> Result<Command<'a>, AllocError>
     ensures { IfOk result (λ command. app_of command ≡ spec.program) }
 {
     add_subcommands(alloc, &FORMS)
 }
 
-// The program with these commands.
+// The program with the commands of `forms`, in their order.
 fn add_subcommands<'a>(alloc: Global, forms: &'static [Form]) -> Result<Command<'a>, AllocError>
     ensures { IfOk result (λ command.
         app_of command ≡ spec.with_lines (map shape_of_form forms.now)) }
@@ -337,7 +337,7 @@ fn add_subcommands<'a>(alloc: Global, forms: &'static [Form]) -> Result<Command<
     Ok(command)
 }
 
-// The program without commands.
+// The program without commands: its name, its help text and its version.
 fn bare_command<'a>(alloc: Global) -> Command<'a>
     ensures { app_of result ≡ spec.bare_program }
 {
@@ -347,14 +347,14 @@ fn bare_command<'a>(alloc: Global) -> Command<'a>
         .subcommand_required(true)
 }
 
-// One command, from its table.
+// The command of `form`, with its arguments.
 fn make_subcommand<'a>(alloc: Global, form: &'static Form) -> Result<Command<'a>, AllocError>
     ensures { IfOk result (λ command. shape_of command ≡ shape_of_form form.now) }
 {
     add_arguments(alloc, form, form.words)
 }
 
-// The command of `form` with the arguments `words`.
+// The command of `form`, with one argument for each row of `words`.
 fn add_arguments<'a>(
     alloc: Global,
     form: &'static Form,
@@ -370,7 +370,7 @@ fn add_arguments<'a>(
     Ok(command)
 }
 
-// One argument, from its row.
+// The argument of `row`, with the kind of its value.
 fn make_arg<'a>(alloc: Global, row: &ArgRow) -> Arg<'a>
     ensures { rule_of result ≡ rule_of_row row.now }
 {
@@ -383,7 +383,7 @@ fn make_arg<'a>(alloc: Global, row: &ArgRow) -> Arg<'a>
     }
 }
 
-// The argument of `row` without the kind of its value.
+// The argument of `row`, still without the kind of its value.
 fn bare_arg<'a>(alloc: Global, row: &ArgRow) -> Arg<'a>
     ensures { rule_of result ≡ bare_rule row.now }
 {

@@ -21,7 +21,7 @@ const PRIORITY_DIGITS: usize = 4;
 ///
 /// # Errors
 ///
-/// `OutOfMemory`; `Value` if the list is malformed.
+/// `OutOfMemory` if memory runs out; `Value` if the list is malformed or can't be permitted.
 pub fn parse_permitted_option(alloc: Global, word: Option<&str>) -> Result<Permitted, WordsFault>
     ensures given { IfOk result (ArePermittedBy (option_map (λ word. word.now) word.entry)) }
     ensures refused { RefusesOnlyWithout (ArePermittedBy (option_map (λ word. word.now) word.entry)) result }
@@ -33,7 +33,7 @@ pub fn parse_permitted_option(alloc: Global, word: Option<&str>) -> Result<Permi
 }
 
 // Parses the permitted priorities, with commas between them. `Value` if one is malformed or above 1,000, or
-// if they are more than 32 or not ascending.
+// if they are more than 32 or not ascending; an empty list is malformed too.
 fn parse_permitted(alloc: Global, word: &str) -> Result<Permitted, WordsFault>
     ensures given { IfOk result (ArePermittedIn word.now) }
     ensures refused { RefusesOnlyWithout (ArePermittedIn word.now) result }
@@ -45,7 +45,7 @@ fn parse_permitted(alloc: Global, word: &str) -> Result<Permitted, WordsFault>
     Ok(permitted)
 }
 
-// The parts of `word` between its commas.
+// The parts of `word` between its commas, in their order. Without a comma `word` is the only part.
 fn split_at_commas<'w>(alloc: Global, word: &'w str) -> Result<Vec<&'w str>, AllocError>
     ensures { IfOk result (λ parts.
         map (λ part. part.now) parts.items ≡ slice_split is_comma word.now) }
@@ -53,7 +53,7 @@ fn split_at_commas<'w>(alloc: Global, word: &'w str) -> Result<Vec<&'w str>, All
     word.split(',').collect(alloc)
 }
 
-// Parses a priority from each part, in their order.
+// Parses a priority from each part, in their order. `Value` if one is malformed or above 1,000.
 fn parse_priorities(alloc: Global, parts: &[&str]) -> Result<Vec<u32>, WordsFault>
     ensures given { IfOk result (λ priorities.
         map Some priorities.items ≡ map priority_in (map (λ part. part.now) parts.now)) }
@@ -70,7 +70,7 @@ fn parse_priorities(alloc: Global, parts: &[&str]) -> Result<Vec<u32>, WordsFaul
     Ok(priorities)
 }
 
-/// Parses a priority or a ceiling: 1 to 4 digits, at most 1,000.
+/// Parses a priority or a ceiling: a decimal number of 1 to 4 digits, at most 1,000. None for other texts.
 #[tactic(auto, unfolding(crate::specs::Equal::priority_in))]
 pub fn parse_priority(text: &str) -> Option<u32>
     ensures parsed { result ≡ priority_in text.now }
@@ -85,7 +85,7 @@ pub fn parse_priority(text: &str) -> Option<u32>
     }
 }
 
-// Whether `text` is 1 to 4 digits.
+// Whether `text` is 1 to 4 decimal digits.
 #[tactic(auto, unfolding(crate::specs::Equal::is_short_number))]
 fn is_short_number(text: &str) -> bool
     ensures { result ≡ spec.is_short_number text.now }
@@ -99,7 +99,7 @@ fn is_short_number(text: &str) -> bool
     are_all_digits(text.as_bytes())
 }
 
-// Whether all bytes are digits.
+// Whether all bytes are decimal digits (ASCII).
 fn are_all_digits(bytes: &[u8]) -> bool
     ensures { result ≡ list_all is_ascii_digit bytes.now }
 {

@@ -101,7 +101,7 @@ impl ErrorCode {
     }
 }
 
-// The error code of a text that is no S2 token.
+// The error code of a text that is no S2 token, by what is wrong with it.
 fn token_word(fault: TokenFault) -> &'static str
     ensures { result.now ≡ spec.token_word fault }
 {
@@ -113,7 +113,7 @@ fn token_word(fault: TokenFault) -> &'static str
     }
 }
 
-// The error code of numbers that are no rectangle.
+// The error code of numbers that are no rectangle, by what is wrong with them.
 fn rect_word(fault: RectFault) -> &'static str
     ensures { result.now ≡ spec.rect_word fault }
 {
@@ -128,6 +128,7 @@ fn rect_word(fault: RectFault) -> &'static str
 impl From<DeskFault> for ErrorCode {
     ghost from_gives = { λ fault failure. failure ≡ spec.enrolment_failure fault };
 
+    // The error code of an enrolment that failed. It can't fail with `UnknownOperator` or `NoSuchPlan`.
     fn from(fault: DeskFault) -> ErrorCode {
         match fault {
             DeskFault::OutOfMemory => ErrorCode::Memory,
@@ -141,6 +142,7 @@ impl From<DeskFault> for ErrorCode {
 impl From<ServeFault> for ErrorCode {
     ghost from_gives = { λ fault failure. failure ≡ spec.serving_failure fault };
 
+    // The error code of a request that got no whole answer.
     fn from(fault: ServeFault) -> ErrorCode {
         match fault {
             ServeFault::Read => ErrorCode::Read,
@@ -178,6 +180,7 @@ impl From<RectFault> for ErrorCode {
 impl From<CoverFault> for ErrorCode {
     ghost from_gives = { λ fault f. f ≡ spec.cover_failure fault };
 
+    // The error code of a rectangle for which no cover was made.
     fn from(fault: CoverFault) -> ErrorCode {
         match fault {
             CoverFault::TooManyCells { .. } => ErrorCode::TooManyCells,
@@ -207,12 +210,12 @@ impl<T: Drop> From<AllocFailed<T>> for ErrorCode {
 pub struct ExitReport<E> {
     /// The exit status.
     pub status: u8,
-    /// The write error at the report of a failure, if there was one.
+    /// The write error if the error code couldn't be printed whole.
     pub cut: Option<WriteError<E>>,
 }
 
 impl<E> ExitReport<E> {
-    /// An exit with this status and without a report.
+    /// The exit with `status` of a command for which no error code was printed.
     pub fn silent(status: u8) -> ExitReport<E>
         ensures status { result.status ≡ status }
         ensures cut { result.cut ≡ None }
@@ -222,7 +225,7 @@ impl<E> ExitReport<E> {
 }
 
 /// The exit of a command: status 0 if `done` is Ok; else the error's status, and its code is printed to
-/// `errors` as `uss_desk: WORD`. A write error there doesn't change the status.
+/// `errors` as `uss_desk: WORD`. A write error there doesn't change the status, and is returned in `cut`.
 pub fn report_exit<E: Write>(errors: &mut E, done: Result<(), ErrorCode>) -> ExitReport<E>
     ensures status { result.status ≡ spec.exit_status done }
     ensures reported { spec.IsConcluded done (is_some result.cut) (E.contents errors.old)
@@ -248,7 +251,7 @@ fn print_failure<E: Write>(errors: &mut E, failure: ErrorCode) -> Option<WriteEr
     }
 }
 
-// Writes the line `uss_desk: WORD`, up to the first write that fails.
+// Writes the line `uss_desk: WORD`, up to the first write that fails, whose error is returned.
 fn write_failure<E: Write>(errors: &mut E, failure: ErrorCode) -> Result<(), WriteError<E>>
     ensures ok { OnOk result (Appends (E.contents errors.old) (E.contents errors.new)
         (spec.failure_line failure)) }

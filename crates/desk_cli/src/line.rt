@@ -78,7 +78,7 @@ pub enum DeskCommand<'a> {
 }
 
 impl<'a> DeskCommand<'a> {
-    /// Which desk the command opens.
+    /// The desk that the command opens, with its settings and enrolments.
     pub fn desk(self) -> &'a DeskArgs
         ensures { result.now ≡ desk_of self.entry }
     {
@@ -100,7 +100,7 @@ pub enum Database {
 }
 
 impl Database {
-    /// The path of its file, if it is in one.
+    /// The path of the database's file. None if the database is in memory.
     pub fn path(&self) -> Option<&str>
         ensures { option_map (λ path. path.now) result ≡ file_of self.now }
     {
@@ -253,6 +253,7 @@ impl From<clap::Error> for WordsFault {
     ghost from_gives = { λ error f. (f ≡ fault.OutOfMemory)
         ⊎ ((f ≡ fault.Words error) × (kind_of error ≢ kind.OutOfMemory)) };
 
+    // `clap` reports that memory ran out by an error kind of its own.
     fn from(error: clap::Error) -> WordsFault {
         if error.kind() == ErrorKind::OutOfMemory {
             WordsFault::OutOfMemory
@@ -262,7 +263,7 @@ impl From<clap::Error> for WordsFault {
     }
 }
 
-/// Parses a command line; its first word is the program's own name.
+/// Parses the command line `words`; the first word is the program's own name.
 ///
 /// # Errors
 ///
@@ -276,7 +277,7 @@ pub fn read_words(alloc: Global, words: Vec<String>) -> Result<Line, WordsFault>
     parse_command(alloc, &words)
 }
 
-// Parses a command line.
+// Parses the command line `words`. `clap` refuses one without a command.
 fn parse_command(alloc: Global, words: &[String]) -> Result<Line, WordsFault>
     ensures valid { IfOk result IsLine }
     ensures given { IfOk result (IsGiven (map string_bytes words.now)) }
@@ -289,7 +290,7 @@ fn parse_command(alloc: Global, words: &[String]) -> Result<Line, WordsFault>
     }
 }
 
-/// Has `clap` parse a command line.
+/// Has `clap` parse the command line `words`; the first word is the program's own name.
 ///
 /// # Errors
 ///
@@ -297,12 +298,12 @@ fn parse_command(alloc: Global, words: &[String]) -> Result<Line, WordsFault>
 pub(crate) fn match_words(alloc: Global, words: &[String]) -> Result<ArgMatches<'_>, WordsFault>
     ensures found { IfOk result (λ matches.
         subcommand_rows_of matches ≡ subcommand_of program (map string_bytes words.now)) }
-    ensures untaken { IfErr result (IsUntaken (map string_bytes words.now)) }
+    ensures refused { IfErr result (IsUntaken (map string_bytes words.now)) }
 {
     Ok(make_command(alloc)?.try_get_matches_from(words)?)
 }
 
-// Reads the command `name` from its arguments.
+// Reads the command `name` from `given`, the arguments that `clap` found. `clap` refuses other names before.
 fn read_command(alloc: Global, name: &str, given: &ArgMatches<'_>) -> Result<Line, WordsFault>
     ensures valid { IfOk result IsLine }
     ensures name { IfOk result (λ line. name_of line ≡ name.now) }
@@ -326,7 +327,7 @@ fn read_command(alloc: Global, name: &str, given: &ArgMatches<'_>) -> Result<Lin
     }
 }
 
-// Reads the arguments of `play`.
+// Reads the arguments of `play`. `Value` if a list of priorities or an enrolment is malformed.
 fn read_play(alloc: Global, given: &ArgMatches<'_>) -> Result<PlayArgs, WordsFault>
     ensures valid { IfOk result IsPlay }
     ensures given { IfOk result (IsPlayGiven (rows_of (found_of given.now))) }
@@ -341,7 +342,8 @@ fn read_play(alloc: Global, given: &ArgMatches<'_>) -> Result<PlayArgs, WordsFau
     })
 }
 
-// Reads which desk `play` or `serve` opens; `operators` is the path of the file of enrolments.
+// Reads which desk `play` or `serve` opens. `operators` is the path of the file of enrolments, which only
+// `serve` may have.
 fn read_desk(
     alloc: Global,
     given: &ArgMatches<'_>,
@@ -362,11 +364,11 @@ fn read_desk(
     })
 }
 
-// Reads the moment of all requests. None if it is missing or out of range.
+// Reads the moment of all requests, a Unix second. None if it is missing or not from 0 to `MAX_SECOND`.
 fn read_moment(given: &ArgMatches<'_>) -> Option<Moment>
     ensures given { IfSome result (λ moment.
         IsIntegerGiven (codes "moment") (rows_of (found_of given.now)) moment.second) }
-    ensures none { result ≡ None → (z : ℤ) → IsMoment z
+    ensures refused { result ≡ None → (z : ℤ) → IsMoment z
         → IsIntegerGiven (codes "moment") (rows_of (found_of given.now)) z → ⊥ }
 {
     Moment::try_new(read_i64(given, "moment")?)
@@ -375,13 +377,13 @@ fn read_moment(given: &ArgMatches<'_>) -> Option<Moment>
 // Reads the argument `id` as an `i64`. None if it is missing or out of range.
 fn read_i64(given: &ArgMatches<'_>, id: &str) -> Option<i64>
     ensures given { IfSome result (IsIntegerGiven id.now (rows_of (found_of given.now))) }
-    ensures none { result ≡ None → (z : ℤ) → SFits w64 z
+    ensures refused { result ≡ None → (z : ℤ) → SFits w64 z
         → IsIntegerGiven id.now (rows_of (found_of given.now)) z → ⊥ }
 {
     given.get_one(id)
 }
 
-// Reads the argument of `token`.
+// Reads the argument of `token`, which isn't checked yet. `Value` if it is missing.
 fn read_token(alloc: Global, given: &ArgMatches<'_>) -> Result<String, WordsFault>
     ensures given { IfOk result (λ token. IsTextGiven (rows_of (found_of given.now)) (string_bytes token)) }
     ensures refused { RefusesOnlyWithout (IsTextGiven (rows_of (found_of given.now))) result }
@@ -392,7 +394,8 @@ fn read_token(alloc: Global, given: &ArgMatches<'_>) -> Result<String, WordsFaul
     }
 }
 
-// Reads the arguments of `serve`.
+// Reads the arguments of `serve`. `Value` if a number is out of range, or if a list of priorities or an
+// enrolment is malformed.
 fn read_serve(alloc: Global, given: &ArgMatches<'_>) -> Result<ServeArgs, WordsFault>
     ensures valid { IfOk result IsServe }
     ensures given { IfOk result (IsServeGiven (rows_of (found_of given.now))) }
@@ -412,11 +415,11 @@ fn read_serve(alloc: Global, given: &ArgMatches<'_>) -> Result<ServeArgs, WordsF
     })
 }
 
-// Reads the port that is listened at. None if it is missing or 0.
+// Reads the port that is listened at. None if it is missing or not from 1 to 65,535.
 fn read_port(given: &ArgMatches<'_>) -> Option<u16>
     ensures valid { IfSome result (IsInRange min_port max_port) }
     ensures given { IfSome result (IsNumberGiven (codes "port") (rows_of (found_of given.now))) }
-    ensures none { result ≡ None → (n : ℕ) → IsInRange min_port max_port n
+    ensures refused { result ≡ None → (n : ℕ) → IsInRange min_port max_port n
         → IsNumberGiven (codes "port") (rows_of (found_of given.now)) n → ⊥ }
 {
     let port = read_u16(given, "port")?;
@@ -426,11 +429,11 @@ fn read_port(given: &ArgMatches<'_>) -> Option<u16>
     Some(port)
 }
 
-// Reads how many connections are served. None if that is missing or out of range.
+// Reads how many connections are served. None if that is missing or not from 1 to `MAX_CONNECTIONS`.
 fn read_connections(given: &ArgMatches<'_>) -> Option<u32>
     ensures valid { IfSome result (IsInRange min_connections max_connections) }
     ensures given { IfSome result (IsNumberGiven (codes "connections") (rows_of (found_of given.now))) }
-    ensures none { result ≡ None → (n : ℕ) → IsInRange min_connections max_connections n
+    ensures refused { result ≡ None → (n : ℕ) → IsInRange min_connections max_connections n
         → IsNumberGiven (codes "connections") (rows_of (found_of given.now)) n → ⊥ }
 {
     let connections = read_u32(given, "connections")?;
@@ -443,7 +446,7 @@ fn read_connections(given: &ArgMatches<'_>) -> Option<u32>
     Some(connections)
 }
 
-// Reads the path of the journal's folder, if one is given.
+// Reads the path of the journal's folder (`--record`), if one is given.
 fn read_folder(alloc: Global, given: &ArgMatches<'_>) -> Result<Option<String>, AllocError>
     ensures { IfOk result (λ folder. option_map string_bytes folder
         ≡ first_of (codes "record") (rows_of (found_of given.now))) }
@@ -462,11 +465,12 @@ fn owned_text(alloc: Global, text: Option<&str>) -> Result<Option<String>, Alloc
     }
 }
 
-// Reads the arguments of `cover`. None if one is missing or out of range.
+// Reads the arguments of `cover`. None if one is missing or doesn't fit its type; whether the numbers are a
+// rectangle is checked later.
 fn read_cover(given: &ArgMatches<'_>) -> Option<CoverArgs>
     ensures valid { IfSome result IsCover }
     ensures given { IfSome result (IsCoverGiven (rows_of (found_of given.now))) }
-    ensures none { result ≡ None → (cover : CoverArgs) → IsCover cover
+    ensures refused { result ≡ None → (cover : CoverArgs) → IsCover cover
         → IsCoverGiven (rows_of (found_of given.now)) cover → ⊥ }
 {
     Some(CoverArgs {
@@ -483,7 +487,7 @@ fn read_cover(given: &ArgMatches<'_>) -> Option<CoverArgs>
 // Reads the argument `id` as a `u8`. None if it is missing or out of range.
 fn read_u8(given: &ArgMatches<'_>, id: &str) -> Option<u8>
     ensures given { IfSome result (IsNumberGiven id.now (rows_of (found_of given.now))) }
-    ensures none { result ≡ None → (n : ℕ) → n < 2 ^ 8
+    ensures refused { result ≡ None → (n : ℕ) → n < 2 ^ 8
         → IsNumberGiven id.now (rows_of (found_of given.now)) n → ⊥ }
 {
     given.get_one(id)
@@ -492,7 +496,7 @@ fn read_u8(given: &ArgMatches<'_>, id: &str) -> Option<u8>
 // Reads the argument `id` as a `u16`. None if it is missing or out of range.
 fn read_u16(given: &ArgMatches<'_>, id: &str) -> Option<u16>
     ensures given { IfSome result (IsNumberGiven id.now (rows_of (found_of given.now))) }
-    ensures none { result ≡ None → (n : ℕ) → n < 2 ^ 16
+    ensures refused { result ≡ None → (n : ℕ) → n < 2 ^ 16
         → IsNumberGiven id.now (rows_of (found_of given.now)) n → ⊥ }
 {
     given.get_one(id)
@@ -501,20 +505,20 @@ fn read_u16(given: &ArgMatches<'_>, id: &str) -> Option<u16>
 // Reads the argument `id` as a `u32`. None if it is missing or out of range.
 fn read_u32(given: &ArgMatches<'_>, id: &str) -> Option<u32>
     ensures given { IfSome result (IsNumberGiven id.now (rows_of (found_of given.now))) }
-    ensures none { result ≡ None → (n : ℕ) → n < 2 ^ 32
+    ensures refused { result ≡ None → (n : ℕ) → n < 2 ^ 32
         → IsNumberGiven id.now (rows_of (found_of given.now)) n → ⊥ }
 {
     given.get_one(id)
 }
 
-// Whether the flag `id` was given.
+// Whether the flag `id`, an option without a value, was given.
 fn is_flag_set(given: &ArgMatches<'_>, id: &str) -> bool
     ensures { result ≡ spec.is_given id.now (rows_of (found_of given.now)) }
 {
     given.get_one(id).unwrap_or(false)
 }
 
-// Reads the arguments of `enrol`.
+// Reads the arguments of `enrol`. `Value` if the name or the ceiling is malformed.
 fn read_enrol(alloc: Global, given: &ArgMatches<'_>) -> Result<EnrolArgs, WordsFault>
     ensures valid { IfOk result IsEnrol }
     ensures given { IfOk result (IsEnrolGiven (rows_of (found_of given.now))) }
@@ -529,7 +533,7 @@ fn read_enrol(alloc: Global, given: &ArgMatches<'_>) -> Result<EnrolArgs, WordsF
     })
 }
 
-// Reads which desk `enrol` opens: one without settings.
+// Reads which desk `enrol` opens: its database and its folder, without settings and enrolments.
 fn read_bare_desk(alloc: Global, given: &ArgMatches<'_>) -> Result<DeskArgs, AllocError>
     ensures { IfOk result (IsBareDeskGiven (rows_of (found_of given.now))) }
 {
@@ -542,7 +546,7 @@ fn read_bare_desk(alloc: Global, given: &ArgMatches<'_>) -> Result<DeskArgs, All
     })
 }
 
-// Reads the arguments of `copy`.
+// Reads the arguments of `copy`. `Value` if the path of the new file is missing.
 fn read_copy(alloc: Global, given: &ArgMatches<'_>) -> Result<CopyArgs, WordsFault>
     ensures given { IfOk result (IsCopyGiven (rows_of (found_of given.now))) }
     ensures refused { RefusesOnlyWithout (IsCopyGiven (rows_of (found_of given.now))) result }
@@ -556,7 +560,7 @@ fn read_copy(alloc: Global, given: &ArgMatches<'_>) -> Result<CopyArgs, WordsFau
     })
 }
 
-// Reads the arguments of `replay`.
+// Reads the arguments of `replay`. `Value` if the last second is out of range.
 fn read_replay(alloc: Global, given: &ArgMatches<'_>) -> Result<ReplayArgs, WordsFault>
     ensures valid { IfOk result IsReplay }
     ensures given { IfOk result (IsReplayGiven (rows_of (found_of given.now))) }
@@ -572,11 +576,12 @@ fn read_replay(alloc: Global, given: &ArgMatches<'_>) -> Result<ReplayArgs, Word
     })
 }
 
-// Reads the last second to be replayed: `Some(None)` if the option is missing, None if it is out of range.
+// Reads the last Unix second to be replayed: `Some(None)` if the option is missing, None if its value is not
+// from 0 to `MAX_SECOND`.
 fn read_until(given: &ArgMatches<'_>) -> Option<Option<u64>>
     ensures valid { IfSome result IsMomentIfGiven }
     ensures given { IfSome result (IsNumberOrNone (codes "until") (rows_of (found_of given.now))) }
-    ensures none { result ≡ None → (found : Option ℕ) → IsMomentIfGiven found
+    ensures refused { result ≡ None → (found : Option ℕ) → IsMomentIfGiven found
         → IsNumberOrNone (codes "until") (rows_of (found_of given.now)) found → ⊥ }
 {
     let until = read_u64_if_given(given, "until")?;
@@ -586,7 +591,7 @@ fn read_until(given: &ArgMatches<'_>) -> Option<Option<u64>>
     Some(until)
 }
 
-// Whether `second` is at most the greatest moment.
+// Whether the Unix second `second` is a moment: at most `MAX_SECOND`.
 fn is_moment(second: u64) -> bool
     ensures { IsTrue result ↔ IsMoment (pos second) }
 {
@@ -596,13 +601,13 @@ fn is_moment(second: u64) -> bool
 // Reads the argument `id` as a `u64`: `Some(None)` if it is missing, None if it is out of range.
 fn read_u64_if_given(given: &ArgMatches<'_>, id: &str) -> Option<Option<u64>>
     ensures given { IfSome result (IsNumberOrNone id.now (rows_of (found_of given.now))) }
-    ensures none { result ≡ None → (found : Option ℕ) → IfSome found (λ n. n < 2 ^ 64)
+    ensures refused { result ≡ None → (found : Option ℕ) → IfSome found (λ n. n < 2 ^ 64)
         → IsNumberOrNone id.now (rows_of (found_of given.now)) found → ⊥ }
 {
     given.try_get_one(id).ok()
 }
 
-// Reads the operator and its ceiling. None if one is missing or malformed.
+// Reads the name and the ceiling of an operator, for `enrol`. None if one is missing or malformed.
 fn read_operator(given: &ArgMatches<'_>) -> Option<Enrolment>
     ensures parsed { result ≡ enrolment_given (rows_of (found_of given.now)) }
     ensures in_range { IfSome result (λ e. e.ceiling ≤ max_priority) }
@@ -610,14 +615,14 @@ fn read_operator(given: &ArgMatches<'_>) -> Option<Enrolment>
     make_enrolment(argument(given, "NAME")?, argument(given, "CEILING")?)
 }
 
-/// The text of the argument `id`. None if it is missing.
+/// The text of the argument `id` in `given`, the arguments that `clap` found. None if it is missing.
 pub(crate) fn argument<'a>(given: &ArgMatches<'a>, id: &str) -> Option<&'a str>
     ensures { option_map (λ text. text.now) result ≡ first_of id.now (rows_of (found_of given.now)) }
 {
     given.get_str(id)
 }
 
-// Reads which database is used.
+// Reads which database is used: in memory if `--db` is missing or `:memory:`.
 fn read_database(alloc: Global, given: &ArgMatches<'_>) -> Result<Database, AllocError>
     ensures { IfOk result (λ database. file_of database ≡ file_given (rows_of (found_of given.now))) }
 {
@@ -640,7 +645,7 @@ fn parse_database(alloc: Global, word: Option<&str>) -> Result<Database, AllocEr
     }
 }
 
-// Reads the settings of the desk.
+// Reads the settings of the desk: the permitted priorities, and the limits on spans and on cells.
 fn read_terms(alloc: Global, given: &ArgMatches<'_>) -> Result<Terms, WordsFault>
     ensures given { IfOk result (AreTermsOf (rows_of (found_of given.now))) }
     ensures refused { RefusesOnlyWithout (AreTermsOf (rows_of (found_of given.now))) result }
@@ -668,26 +673,26 @@ fn read_cells(given: &ArgMatches<'_>) -> Result<Option<u32>, WordsFault>
     read_limit(given, "cells", MAX_TOTAL_CELLS)
 }
 
-// Reads the limit `id`, from 1 to `greatest`. None if the option is missing.
+// Reads the limit `id`: `Some` from 1 to `greatest`, None if the option is missing. `Value` for other values.
 fn read_limit(given: &ArgMatches<'_>, id: &str, greatest: u32) -> Result<Option<u32>, WordsFault>
     ensures given { IfOk result (IsMostOf id.now greatest (rows_of (found_of given.now))) }
     ensures refused { RefusesOnlyWithout (IsMostOf id.now greatest (rows_of (found_of given.now))) result }
 {
-    let Some(most) = read_u32_if_given(given, id) else {
+    let Some(limit) = read_u32_if_given(given, id) else {
         return Err(WordsFault::Value);
     };
-    if !is_valid_limit(most, greatest) {
+    if !is_valid_limit(limit, greatest) {
         return Err(WordsFault::Value);
     }
-    Ok(most)
+    Ok(limit)
 }
 
-// Whether a limit, if there is one, is from 1 to `greatest`.
-fn is_valid_limit(most: Option<u32>, greatest: u32) -> bool
-    ensures { IsTrue result ↔ IfSome most (IsInRange min_most greatest) }
+// Whether `limit`, if there is one, is from 1 to `greatest`.
+fn is_valid_limit(limit: Option<u32>, greatest: u32) -> bool
+    ensures { IsTrue result ↔ IfSome limit (IsInRange min_most greatest) }
 {
-    match most {
-        Some(most) => (1..=greatest).contains(&most),
+    match limit {
+        Some(limit) => (1..=greatest).contains(&limit),
         None => true,
     }
 }
@@ -695,13 +700,13 @@ fn is_valid_limit(most: Option<u32>, greatest: u32) -> bool
 // Reads the argument `id` as a `u32`: `Some(None)` if it is missing, None if it is out of range.
 fn read_u32_if_given(given: &ArgMatches<'_>, id: &str) -> Option<Option<u32>>
     ensures given { IfSome result (IsNumberOrNone id.now (rows_of (found_of given.now))) }
-    ensures none { result ≡ None → (found : Option ℕ) → IfSome found (λ n. n < 2 ^ 32)
+    ensures refused { result ≡ None → (found : Option ℕ) → IfSome found (λ n. n < 2 ^ 32)
         → IsNumberOrNone id.now (rows_of (found_of given.now)) found → ⊥ }
 {
     given.try_get_one(id).ok()
 }
 
-// Reads the priorities at which plans may overlap.
+// Reads the priorities at which plans of equal priority may overlap (`--equal`).
 fn read_permitted(alloc: Global, given: &ArgMatches<'_>) -> Result<Permitted, WordsFault>
     ensures given { IfOk result (ArePermittedBy
         (first_of (codes "equal") (rows_of (found_of given.now)))) }
@@ -711,7 +716,7 @@ fn read_permitted(alloc: Global, given: &ArgMatches<'_>) -> Result<Permitted, Wo
     parse_permitted_option(alloc, argument(given, "equal"))
 }
 
-// Reads the enrolments, in the order given.
+// Reads the enrolments, in the order given. `Value` if one is malformed.
 fn read_enrolments(alloc: Global, given: &ArgMatches<'_>) -> Result<Vec<Enrolment>, WordsFault>
     ensures in_range { IfOk result (λ enrolments. AreEnrolments enrolments.items) }
     ensures given { IfOk result (λ enrolments.
@@ -722,7 +727,7 @@ fn read_enrolments(alloc: Global, given: &ArgMatches<'_>) -> Result<Vec<Enrolmen
     parse_enrolments(alloc, given.get_strs("enrolments").unwrap_or(&[]))
 }
 
-// Parses an enrolment `NAME=CEILING` from each of `words`, in their order.
+// Parses an enrolment `NAME=CEILING` from each of `words`, in their order. `Value` if one is malformed.
 fn parse_enrolments(alloc: Global, words: &[&str]) -> Result<Vec<Enrolment>, WordsFault>
     ensures in_range { IfOk result (λ enrolments. AreEnrolments enrolments.items) }
     ensures given { IfOk result (λ enrolments. map Some enrolments.items

@@ -24,8 +24,8 @@ const NO_CEILING: &str = "no ceiling: a number from 0 to 1000, of at most 4 digi
 const NO_LIST: &str =
     "no list of priorities: at most 32 from 0 to 1000, ascending, with commas between";
 
-/// The first malformed argument, and what it should have been. None if no argument is malformed, or if memory
-/// runs out.
+/// The first malformed argument of the command line `words`, and why it is malformed, as a text that says
+/// what it should have been. None if no argument is malformed, or if memory runs out.
 pub fn find_malformed_argument<'w>(
     alloc: Global,
     words: &'w [String],
@@ -37,7 +37,7 @@ pub fn find_malformed_argument<'w>(
     malformed_argument(alloc, name, given)
 }
 
-// The first malformed argument of the command `name`.
+// The first malformed argument of the command `name`; the commands that `clap` checks alone have none.
 fn malformed_argument<'w>(
     alloc: Global,
     name: &str,
@@ -51,7 +51,7 @@ fn malformed_argument<'w>(
     malformed_at_desk(alloc, given)
 }
 
-// The name or the ceiling of `enrol`, if it is malformed.
+// The name of `enrol` if it is malformed, else the ceiling if that is.
 fn malformed_operator<'w>(given: &ArgMatches<'w>) -> Option<(&'w str, &'static str)>
     ensures { IfSome result (λ found. IsBadOperator (rows_of (found_of given.now)) found.0.now) }
 {
@@ -74,7 +74,8 @@ fn malformed_at_desk<'w>(alloc: Global, given: &ArgMatches<'w>) -> Option<(&'w s
     malformed_list_or_enrolment(alloc, argument(given, "equal"), words)
 }
 
-// The value of `--equal`, if it is malformed, else the first of `words` that is no enrolment.
+// The value of `--equal`, if it is malformed, else the first of `words` that is no enrolment. None if memory
+// runs out.
 fn malformed_list_or_enrolment<'w>(
     alloc: Global,
     equal: Option<&'w str>,
@@ -93,7 +94,7 @@ fn malformed_list_or_enrolment<'w>(
     }
 }
 
-// The first of `words` that is no enrolment `NAME=CEILING`.
+// The first of `words` that is no enrolment `NAME=CEILING`. None if all are.
 fn malformed_enrolment<'w>(words: &[&'w str]) -> Option<(&'w str, &'static str)>
     ensures { IfSome result (λ found. first_bad (map (λ word. word.now) words.now) ≡ Some found.0.now) }
 {
@@ -116,7 +117,7 @@ fn enrolment_cause(word: &str) -> Option<&'static str>
     }
 }
 
-// Why `name` or `ceiling` is malformed. None if neither is.
+// Why `name` is no operator's name, or else why `ceiling` is no ceiling. None if both are well-formed.
 fn pair_cause(name: &str, ceiling: &str) -> Option<&'static str>
     ensures { is_some result ≡ is_none (enrolment_by name.now ceiling.now) }
 {
@@ -136,7 +137,7 @@ fn name_cause(name: &str) -> Option<&'static str>
     }
 }
 
-// Why `ceiling` is no ceiling. None if it is one.
+// Why `ceiling` is no ceiling: a number from 0 to 1,000. None if it is one.
 fn ceiling_cause(ceiling: &str) -> Option<&'static str>
     ensures { is_some result ≡ is_none (priority_in ceiling.now) }
 {

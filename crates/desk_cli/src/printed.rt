@@ -25,8 +25,8 @@ use std::alloc::{AllocError, Global};
 use std::io::Write;
 use volume4d::MAX_COVER;
 
-/// Carries out `token` or `cover`: prints the result to `output`, or the error code to `errors`. A write
-/// error at `errors` doesn't change the exit status.
+/// Carries out `line`, which is `token` or `cover`: prints the result to `output`, or the error code to
+/// `errors`. A write error at `output` has the code `write`; one at `errors` doesn't change the exit status.
 pub fn print_line<W: Write, E: Write>(
     alloc: Global,
     line: &Line,
@@ -40,7 +40,7 @@ pub fn print_line<W: Write, E: Write>(
     report_exit(errors, print_output(alloc, line, output))
 }
 
-// Prints the result of `token` or `cover`.
+// Prints the result of `line`, which is `token` or `cover`. An error if there is none, or a write fails.
 fn print_output<W: Write>(alloc: Global, line: &Line, output: &mut W) -> Result<(), ErrorCode>
     requires { IsPrinting line.now }
     ensures { IsShown line.now result (W.contents output.old) (W.contents output.new) }
@@ -49,7 +49,7 @@ fn print_output<W: Write>(alloc: Global, line: &Line, output: &mut W) -> Result<
     write_text(output, &text)
 }
 
-// Writes `text`, up to the first write that fails.
+// Writes `text`, up to the first write that fails; the error is `Write` then.
 #[tactic(auto, using(crate::proofs::WrittenLemmas::begun_part))]
 fn write_text<W: Write>(output: &mut W, text: &str) -> Result<(), ErrorCode>
     ensures ok { OnOk result (Appends (W.contents output.old) (W.contents output.new) text.now) }
@@ -60,7 +60,7 @@ fn write_text<W: Write>(output: &mut W, text: &str) -> Result<(), ErrorCode>
     Ok(())
 }
 
-// The result of `token` or `cover`, as it is printed.
+// The result of `line`, which is `token` or `cover`, as it is printed.
 fn output_text(alloc: Global, line: &Line) -> Result<String, ErrorCode>
     requires { IsPrinting line.now }
     ensures ok { IfOk result (λ text. IsTextOf line.now (Ok (string_bytes text))) }
@@ -68,12 +68,12 @@ fn output_text(alloc: Global, line: &Line) -> Result<String, ErrorCode>
 {
     match line {
         Line::Token(token) => token_text(alloc, token),
-        Line::Cover(words) => cover_text(alloc, words),
+        Line::Cover(cover_args) => cover_text(alloc, cover_args),
         _ => unreachable!(),
     }
 }
 
-// The line that describes the cell of a token.
+// The line that describes the cell of `token`, an S2 token. An error if `token` is none.
 fn token_text(alloc: Global, token: &str) -> Result<String, ErrorCode>
     ensures ok { IfOk result (λ text. Ok (string_bytes text) ≡ reported_of_token (read_token token.now)) }
     ensures err { IfErr result (λ f. (f ≡ Memory) ⊎ (Err f ≡ reported_of_token (read_token token.now))) }
@@ -82,7 +82,7 @@ fn token_text(alloc: Global, token: &str) -> Result<String, ErrorCode>
     Ok(cell_line(alloc, &cell)?)
 }
 
-// The line that describes a cell: token, face, level, and its first and last leaf.
+// The line that describes a cell: its token, its face, its level, and the tokens of its first and last leaf.
 #[tactic(auto, unfolding(crate::specs::Printing::cell_line))]
 fn cell_line(alloc: Global, cell: &CellId) -> Result<String, AllocError>
     ensures { IfOk result (λ text. string_bytes text ≡ spec.cell_line cell.now) }
@@ -94,30 +94,31 @@ fn cell_line(alloc: Global, cell: &CellId) -> Result<String, AllocError>
     format!(in alloc; "{cell} face {face} level {level} leaves {first} {last}\n")
 }
 
-// The cells of a rectangle's cover: their tokens and counts, or, if asked for, a picture of them.
-fn cover_text(alloc: Global, words: &CoverArgs) -> Result<String, ErrorCode>
-    ensures ok { IfOk result (λ text. IsRectReported words.now.is_picture
-        (rect_or_fault (rect_parts words.now)) (Ok (string_bytes text))) }
+// The cells of a rectangle's cover: their tokens and counts, or, if asked for, a picture of them. An error if
+// the numbers are no rectangle, or the cover has more than `MAX_COVER` cells.
+fn cover_text(alloc: Global, cover_args: &CoverArgs) -> Result<String, ErrorCode>
+    ensures ok { IfOk result (λ text. IsRectReported cover_args.now.is_picture
+        (rect_or_fault (rect_parts cover_args.now)) (Ok (string_bytes text))) }
     ensures err { IfErr result (λ f. (f ≡ Memory)
-        ⊎ IsRectReported words.now.is_picture (rect_or_fault (rect_parts words.now)) (Err f)) }
+        ⊎ IsRectReported cover_args.now.is_picture (rect_or_fault (rect_parts cover_args.now)) (Err f)) }
 {
     let rect = Rect::try_new(
-        words.face,
-        words.i_min,
-        words.i_max,
-        words.j_min,
-        words.j_max,
-        words.level,
+        cover_args.face,
+        cover_args.i_min,
+        cover_args.i_max,
+        cover_args.j_min,
+        cover_args.j_max,
+        cover_args.level,
     )?;
     let cover = cover(alloc, &rect, MAX_COVER)?;
-    if words.is_picture {
+    if cover_args.is_picture {
         Ok(picture_of(alloc, &rect, cover.cells())?)
     } else {
         Ok(cells_text(alloc, &cover)?)
     }
 }
 
-// The token of each cell of a cover on its own line, then the numbers of cells and ranges.
+// The token of each cell of a cover on its own line, then one line with the numbers of cells and of ranges.
 #[tactic(auto, unfolding(crate::specs::Printing::cover_lines))]
 fn cells_text(alloc: Global, cover: &Cover) -> Result<String, AllocError>
     ensures { IfOk result (λ text. (spans : List Span) × IsRanges (leaves_of cover.now.ids) spans
@@ -131,7 +132,7 @@ fn cells_text(alloc: Global, cover: &Cover) -> Result<String, AllocError>
     Ok(text)
 }
 
-// The token of each cell on its own line.
+// The token of each cell on its own line, in their order.
 fn tokens_text(alloc: Global, cells: &[CellId]) -> Result<String, AllocError>
     ensures { IfOk result (λ text. string_bytes text ≡ spec.token_lines cells.now) }
 {

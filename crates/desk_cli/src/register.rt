@@ -8,7 +8,7 @@ ghost use Rattle.desk_cli.specs.Register as spec;
 use crate::line::{Enrolment, make_enrolment};
 use std::alloc::{AllocError, Global};
 
-/// The lines of `text`, without their line feeds.
+/// The lines of `text`, without their line feeds. After a line feed at the end comes an empty line.
 pub fn lines_of<'t>(alloc: Global, text: &'t str) -> Result<Vec<&'t str>, AllocError>
     ensures { IfOk result (λ lines. map (λ line. line.now) lines.items ≡ spec.lines_of text.now) }
 {
@@ -17,7 +17,7 @@ pub fn lines_of<'t>(alloc: Global, text: &'t str) -> Result<Vec<&'t str>, AllocE
 
 /// Parses the lines that are `NAME CEILING`, in their order; other lines are skipped.
 pub fn parse_enrolment_lines(alloc: Global, lines: &[&str]) -> Result<Vec<Enrolment>, AllocError>
-    ensures small { IfOk result (λ enrolments. AreEnrolments enrolments.items) }
+    ensures in_range { IfOk result (λ enrolments. AreEnrolments enrolments.items) }
     ensures value { IfOk result (λ enrolments.
         enrolments.items ≡ spec.parse_enrolment_lines (map (λ line. line.now) lines.now)) }
 {
@@ -28,9 +28,9 @@ pub fn parse_enrolment_lines(alloc: Global, lines: &[&str]) -> Result<Vec<Enrolm
     Ok(enrolments)
 }
 
-// Adds the enrolment of `line` to `enrolments`, if `line` is one.
+// Adds the enrolment of `line` to the end of `enrolments`; nothing if `line` is no enrolment.
 fn add_enrolment(enrolments: &mut Vec<Enrolment>, line: &str) -> Result<(), AllocError>
-    ensures small { IfOk result (λ _. AreEnrolments enrolments.old.items →
+    ensures in_range { IfOk result (λ _. AreEnrolments enrolments.old.items →
         AreEnrolments enrolments.new.items) }
     ensures value { IfOk result (λ _. enrolments.new.items
         ≡ enrolments.old.items ++ spec.parse_enrolment_lines (line.now ∷ [])) }
@@ -41,11 +41,11 @@ fn add_enrolment(enrolments: &mut Vec<Enrolment>, line: &str) -> Result<(), Allo
     Ok(())
 }
 
-/// Parses a line `NAME CEILING`, split at its first blank. None if it is malformed.
+/// Parses a line `NAME CEILING`, split at its first space. None if it is malformed.
 #[tactic(auto, unfolding(crate::specs::Register::parse_enrolment_line))]
 pub fn parse_enrolment_line(line: &str) -> Option<Enrolment>
     ensures value { result ≡ spec.parse_enrolment_line line.now }
-    ensures small { IfSome result (λ e. e.ceiling ≤ max_priority) }
+    ensures in_range { IfSome result (λ e. e.ceiling ≤ max_priority) }
 {
     let (name, ceiling) = line.split_once(' ')?;
     make_enrolment(name, ceiling)

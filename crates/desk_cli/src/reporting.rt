@@ -9,8 +9,8 @@ use io_ends::write_whole;
 use std::alloc::{AllocError, Global};
 use std::io::Write;
 
-/// Prints `uss_desk: PLACE: TEXT` to `errors`. Write errors are ignored; if memory runs out, nothing is
-/// printed.
+/// Prints `uss_desk: PLACE: TEXT` to `errors`; `place` is an argument or the path of a file. Write errors are
+/// ignored; if memory runs out, nothing is printed.
 #[tactic(auto, using(crate::proofs::ReportLemmas::nothing_reported))]
 pub fn report<E: Write>(alloc: Global, place: &str, text: &str, errors: &mut E)
     ensures { IsReported place.now text.now (E.contents errors.old) (E.contents errors.new) }
@@ -20,7 +20,7 @@ pub fn report<E: Write>(alloc: Global, place: &str, text: &str, errors: &mut E)
     }
 }
 
-// Writes `line`, up to the first write that fails.
+// Writes `line`, up to the first write that fails. The write error is ignored.
 #[tactic(auto, using(crate::proofs::ReportLemmas::printed_line, crate::proofs::ReportLemmas::broken_line))]
 fn write_line<E: Write>(line: &str, errors: &mut E)
     ensures { IsPrintedPart line.now (E.contents errors.old) (E.contents errors.new) }
@@ -28,7 +28,7 @@ fn write_line<E: Write>(line: &str, errors: &mut E)
     let _ = write_whole(errors, line.as_bytes());
 }
 
-// The line `uss_desk: PLACE: TEXT`.
+// The line `uss_desk: PLACE: TEXT`, with its line feed.
 #[tactic(auto, unfolding(crate::specs::Reporting::report_line))]
 fn report_line(alloc: Global, place: &str, text: &str) -> Result<String, AllocError>
     ensures { IfOk result (λ line. string_bytes line ≡ spec.report_line place.now text.now) }
@@ -36,8 +36,8 @@ fn report_line(alloc: Global, place: &str, text: &str) -> Result<String, AllocEr
     format!(in alloc; "uss_desk: {place}: {text}\n")
 }
 
-/// Prints the first malformed argument and why it is so: `uss_desk: WORD: CAUSE`. Write errors are ignored;
-/// if no argument is malformed, or memory runs out, nothing is printed.
+/// Prints the first malformed argument of the command line `words` and why it is so: `uss_desk: WORD: CAUSE`.
+/// Write errors are ignored; if no argument is malformed, or memory runs out, nothing is printed.
 #[tactic(auto, using(crate::proofs::ReportLemmas::nothing_malformed))]
 pub fn report_malformed_argument<E: Write>(alloc: Global, words: &[String], errors: &mut E)
     ensures { IsMalformedReported (map string_bytes words.now) (E.contents errors.old)

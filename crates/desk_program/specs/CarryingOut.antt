@@ -17,7 +17,7 @@ use Rattle.desk_program.specs.Outside.{Outside, streamed}
 use Rattle.desk_program.specs.PlayLines.{IsEnrolled, IsPlayDone}
 use Rattle.desk_program.specs.Serving.{IsLineServed}
 
--- `play` and `enrol` take no connection; `serve` and `enrol` read no input; `serve` prints that it listens
+-- what a command does. `play` and `enrol` take no connection; `serve` and `enrol` read no input
 abbrev pub IsCarriedOut : Type 0 → Line → Outside → DeskWorld → DeskWorld → Type 0
 IsCarriedOut H (line.Play play) o w after =
     (o.port.after ≡ o.port.before) × IsPlayDone H play o.end o.bytes w after
@@ -29,7 +29,8 @@ IsCarriedOut H (line.Enrol enrol) o w after =
     × IsEnrolled H enrol.enrolment o.end o.bytes.writes w after
 IsCarriedOut H _ o w after = ⊥
 
--- a command is run at a desk, and what may be found then; if it ended with `store`, that has its cause
+-- a command is run at a desk: what it does (`done`), what the next start may find (`kept`), and, if it ended
+-- with the error code `store`, that the store counted a fault (`cause`)
 pub record CarriesOut {S : Type 0} (g : Ghosts S) (line : Line) (o : Outside) (old new : Parts S) : Type 0
   where
     pub done : IsCarriedOut (IsHonest (g.doubt new.store)) line o (world_of g.content old)
@@ -39,14 +40,14 @@ pub record CarriesOut {S : Type 0} (g : Ghosts S) (line : Line) (o : Outside) (o
     pub cause : HasCause g old new o.end
     pub remembered : Remembers g.doubt g.faults g.is_shielded old.store new.store
 
--- a command that takes no connection, and its numbers are in their ranges
+-- a command is `play` or `enrol`, which take no connection, and its numbers are in range
 abbrev pub IsPortless : Line → Type 0
 IsPortless (line.Play play) = IsPlay play
 IsPortless (line.Enrol enrol) = IsEnrol enrol
 IsPortless _ = ⊥
 
--- a command that takes no connection is carried out at a desk, and ends with this status: whether the line of
--- its failure was broken off isn't reported
+-- a command without a port is run at a desk, and ends with this status. Whether the line with its error code
+-- was cut off (`cut`) isn't returned
 pub record EndsWithStatus {S : Type 0} (g : Ghosts S) (line : Line) (status : ℕ) (bytes : Passage)
     (errors : Course (Option (List ℕ))) (old new : Parts S) : Type 0 where
   pub cut : Bool
@@ -57,8 +58,8 @@ pub record EndsWithStatus {S : Type 0} (g : Ghosts S) (line : Line) (status : �
     now = errors.after;
   })) old new
 
--- no desk was opened: the line ends with that failure, no connection is taken, nothing is read, and nothing
--- is written
+-- no desk was opened: the command ends with that failure, and returns no desk; no connection is taken, and
+-- nothing is read or written
 abbrev pub IsUnopened : {S : Type 0} → Outside → Option S → ErrorCode → Type 0
 IsUnopened o left failure = FailsWith failure o.end × (left ≡ None) × (o.port.after ≡ o.port.before)
     × (o.bytes.reads.after ≡ o.bytes.reads.before) × (o.bytes.writes.after ≡ o.bytes.writes.before)

@@ -1,5 +1,5 @@
--- Keeping: what a start may find of a desk's content, whatever ended the program that carried out a line
--- there.
+-- Keeping: the crash states, which are what the next start may find of a desk's content (`found`), however
+-- the program ended.
 use Rattle.std.specs.Prelude.{◌≡◌, ◌⊎◌, ◌+◌, ⊤, ℕ, List, [], ◌∷◌, take, Option, Some, Result, Ok, Err}
 use Rattle.std.specs.Option.{IsSomeAnd}
 use Rattle.desk_store.specs.declared.store.PlanStore.{Ghosts}
@@ -22,22 +22,22 @@ use Rattle.desk_program.specs.Outside.{Outside}
 use Rattle.desk_program.specs.PlayLines.{IsNotPlayed, IsPlayed}
 use Rattle.desk_program.specs.Serving.{AreTaken, Exchange, HasBegunServing, IsNotBegun, Traffic, passage_of}
 
--- the first operators are listed, and not all of them; what is found has these, or these and the next one
+-- the first operators are enrolled, and not all; the next start finds these, or these and the next one
 pub record AreKeptSoFar (H : Type 0) (es : List Enrolment) (w after : DeskWorld) (found : Option World) :
     Type 0 where
   pub listed : AreListedSoFar H es w after
   pub finds : (found ≡ Some (with_operators w (take listed.count es)).content)
       ⊎ (found ≡ Some (with_operators w (take (listed.count + 1) es)).content)
 
--- what is found once operators were enrolled at a settled desk: what that left, or, if one could not be
--- listed, what one more would leave
+-- what the next start finds after enrolments at a desk of which it could find only one content: what they
+-- left, or, if one could not be made, what one more would leave
 abbrev pub FindsListed :
     {A B : Type 0} → Type 0 → Result A B → List Enrolment → DeskWorld → DeskWorld → Option World → Type 0
 FindsListed H (Ok done) es w after found = found ≡ Some after.content
 FindsListed H (Err fault) es w after found = AreKeptSoFar H es w after found
 
--- what is found once operators were enrolled is what that left; or, if an enrolment failed, what one more
--- would leave. If nothing was changed, it may be what might have been found before
+-- what the next start finds after enrolments is what they left; or, if one failed, what one more would
+-- leave. If nothing was changed, it may be what could have been found before (`before`)
 abbrev pub FindsNews :
     {A B : Type 0} → Result A B → List Enrolment → DeskWorld → DeskWorld → (Option World → Type 0)
     → (Option World → Type 0) → Type 0
@@ -46,13 +46,13 @@ FindsNews (Ok done) es w after before now = (found : Option World) → now found
 FindsNews (Err fault) es w after before now = (found : Option World) → now found
     → AreKeptSoFar ⊤ es w after found ⊎ ((after ≡ w) × before found)
 
--- what is found has the operator listed; or it is what was there before, and nothing was printed
+-- the next start finds the operator enrolled; or it finds what was there before, and nothing was printed
 abbrev pub FindsEnrolled :
     Enrolment → Ending → Course (Option (List ℕ)) → DeskWorld → Option World → Type 0
 FindsEnrolled e end writes w found = (found ≡ Some (enrolled w e.operator e.ceiling).content)
     ⊎ (IsBrokenDown end × (writes.after ≡ writes.before) × (found ≡ Some w.content))
 
--- the requests of the input are played, and what is found is theirs; or an operator could not be listed
+-- the next start finds what the requests of the input left; or an operator could not be enrolled
 abbrev pub IsPlayKept :
     Type 0 → PlayArgs → Ending → Passage → DeskWorld → DeskWorld → Option World → Type 0
 IsPlayKept H play end p w after found =
@@ -62,32 +62,31 @@ IsPlayKept H play end p w after found =
     ⊎ (IsNotPlayed H play end p w after
     × AreKeptSoFar H play.desk.enrolments.items (on_terms w play.desk.terms) after found)
 
--- the request of a connection left a world as it was, its answer was a 500 or is not whole, and what is
--- found is what this request would leave there
+-- the request of a connection was answered with a 500 or not whole, and changed nothing; but the next start
+-- finds its change made
 abbrev pub IsLeftUncertain : DeskWorld → Option World → Exchange → Type 0
 IsLeftUncertain w found x = (¬ IsCertain x.served)
     × HasServed ⊤ x.served (passage_of x) w x.arrival.moment w
     × IsLeftBy (IsTaken x.arrival.bytes x.parting.unread) w x.arrival.moment found
 
--- the same of one of these connections
+-- this is so of one of these connections
 abbrev pub IsLeftByOne : DeskWorld → Option World → List Exchange → Type 0
 IsLeftByOne w found [] = ⊥
 IsLeftByOne w found (x ∷ xs) = IsLeftUncertain w found x ⊎ IsLeftByOne w found xs
 
--- of the last new enrolments an operator could not be listed, and what is found has it listed, or has not
+-- of the last new enrolments one could not be made, and the next start finds it made or not made
 abbrev pub IsLeftByNews : DeskWorld → Option World → Option (List Enrolment) → Type 0
 IsLeftByNews w found last =
     IsSomeAnd last (λ newly_enrolled. (before : DeskWorld) × AreKeptSoFar ⊤ newly_enrolled before w found)
 
--- what is found after connections is what their requests and the new enrolments left; or what one of these
--- would leave of that, which left it as it was, and its answer was a 500 or is not whole; or one more
--- enrolment
+-- what the next start finds after connections: what their requests and the new enrolments left; or that with
+-- the change of one request that failed, or with one more of the last new enrolments
 abbrev pub IsFoundServed : List Exchange → Option (List Enrolment) → DeskWorld → Option World → Type 0
 IsFoundServed xs last after found =
     (found ≡ Some after.content) ⊎ IsLeftByOne after found xs ⊎ IsLeftByNews after found last
 
--- connections are taken at a desk, and that is what may be found then; or, if their requests left all as it
--- was, what might have been found before
+-- connections are taken at a desk, and the next start finds what `IsFoundServed` says; or, if they changed
+-- nothing, it may find what could have been found before
 pub record AreKept {A S : Type 0} (g : Ghosts S) (done : Result A ErrorCode) (count : ℕ)
     (port : Course Traffic)
     (old new : Parts S) : Type 0 where
@@ -97,7 +96,8 @@ pub record AreKept {A S : Type 0} (g : Ghosts S) (done : Result A ErrorCode) (co
       → IsFoundServed taken.exchanges taken.last (world_of g.content new) found
       ⊎ ((world_of g.content new ≡ world_of g.content old) × g.may_leave old.store found)
 
--- connections are taken once all operators are listed, or an operator could not be listed
+-- what the next start finds if connections are taken once all operators are enrolled, or if one could not be
+-- enrolled
 abbrev pub IsPortKept :
     {A : Type 0} → Type 0 → Result A ErrorCode → ServeArgs → Course Traffic → DeskWorld → DeskWorld
     → Option World → Type 0
@@ -107,14 +107,14 @@ IsPortKept H done serve port w after found =
     ⊎ (IsNotBegun H done serve port w after
     × AreKeptSoFar H serve.desk.enrolments.items (on_terms w serve.desk.terms) after found)
 
--- the command `serve` is carried out, and that is what is found
+-- what the next start finds after the command `serve`
 pub record IsServeKept (H : Type 0) (serve : ServeArgs) (end : Ending) (port : Course Traffic)
     (w after : DeskWorld) (found : Option World) : Type 0 where
   pub done : Result ⊤ ErrorCode
   pub ends : EndsWith done end
   pub kept : IsPortKept H done serve port w after found
 
--- by the command that is run at a desk
+-- what the next start finds after a command at a desk
 abbrev pub IsLineKept : Type 0 → Line → Outside → DeskWorld → DeskWorld → Option World → Type 0
 IsLineKept H (line.Play play) o w after found = IsPlayKept H play o.end o.bytes w after found
 IsLineKept H (line.Enrol enrol) o w after found = FindsEnrolled enrol.enrolment o.end o.bytes.writes w found

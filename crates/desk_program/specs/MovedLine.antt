@@ -5,6 +5,7 @@ use Rattle.desk_cli.specs.declared.failure.ErrorCode.TheVariants as failure
 use Rattle.desk_cli.specs.Exits.{Ending, EndsWell, FailsWith}
 use Rattle.desk_program.specs.Enrolling.{IsCutOff}
 
+-- the line of `migrate`
 unfoldable pub migrated_line : ℕ → List ℕ
 migrated_line count = codes "migrated " ++ (decimal count ++ codes " plans\n")
 

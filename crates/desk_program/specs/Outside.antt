@@ -1,4 +1,4 @@
--- Outside: what is known of what a line reads and writes, of its port, and of how it ended.
+-- Outside: what a command reads and writes, what its port reports, and how it ended.
 use Rattle.std.specs.Prelude.{ℕ, List, Option}
 use Rattle.std.specs.declared.io.Read as read
 use Rattle.std.specs.declared.io.Write as write
@@ -14,15 +14,15 @@ pub record Outside : Type 0 where
   pub port : Course Traffic
   pub end : Ending
 
--- the bytes that a writer has
+-- the bytes that a writer held before and holds after, if they are known
 abbrev pub bytes_written : {W : Type 0} → write.Ghosts W → W → W → Course (Option (List ℕ))
 bytes_written w before after = course (w.contents before) (w.contents after)
 
--- how a line ended, by its error writer
+-- how a command ended, by its exit report and its error writer
 abbrev pub ended : {E : Type 0} → write.Ghosts E → ExitReport E → E → E → Ending
 ended e exit before now = ending exit (e.contents before) (e.contents now)
 
--- a line's streams and its port, as they were before and as they are now, and how it ended
+-- the streams and the port of a command, before and after it, and how it ended
 abbrev pub outside :
     {R W E : Type 0} → read.Ghosts R → write.Ghosts W → write.Ghosts E → Streams R W E → Streams R W E
     → Course Traffic → ExitReport E → Outside
@@ -32,6 +32,6 @@ outside r w e old new port exit = record {
   end = ended e exit old.errors new.errors;
 }
 
--- streams, and how the line ended, where no port is asked
+-- the same of a command without a port
 abbrev pub streamed : Passage → Ending → Outside
 streamed bytes end = record { bytes = bytes; port = course unreported unreported; end = end }

@@ -12,13 +12,13 @@ use Rattle.desk_cli.specs.declared.failure.ErrorCode.TheVariants as failure
 use Rattle.desk_cli.specs.Exits.{Ending, EndsWell, EndsWith, FailsWith, IsBrokenDown, failure_after}
 use Rattle.desk_program.specs.Enrolling.{AreListedSoFar, IsCutOff, ListsOperator, enrolled_line, on_terms, with_operators}
 
--- what was done, if this is why it did not end well
+-- the result of a run that ended with this failure; Ok if there is none
 abbrev pub done_unless : Option ErrorCode → Result ⊤ ErrorCode
 done_unless None = Ok tt
 done_unless (Some failure) = Err failure
 
--- the requests of the input are played at the world on the line's terms in which its operators are
--- listed, and the line ends as they do
+-- the requests of the input are answered at the world with the command's settings and enrolments, and the
+-- command ends as this run ends
 pub record IsPlayed (H : Type 0) (play : PlayArgs) (end : Ending) (p : Passage) (w after : DeskWorld) :
     Type 0 where
   pub ended : PlayEnd
@@ -27,7 +27,7 @@ pub record IsPlayed (H : Type 0) (play : PlayArgs) (end : Ending) (p : Passage) 
   pub played : H → HasPlayed H ended answered p
       (with_operators (on_terms w play.desk.terms) play.desk.enrolments.items) play.moment.second after
 
--- an operator could not be listed: those before it are, and nothing is read or written
+-- an operator could not be enrolled: those before it are, and nothing is read or written
 pub record IsNotPlayed (H : Type 0) (play : PlayArgs) (end : Ending) (p : Passage) (w after : DeskWorld) :
     Type 0 where
   pub ends : IsBrokenDown end
@@ -39,8 +39,8 @@ pub record IsNotPlayed (H : Type 0) (play : PlayArgs) (end : Ending) (p : Passag
 abbrev pub IsPlayDone : Type 0 → PlayArgs → Ending → Passage → DeskWorld → DeskWorld → Type 0
 IsPlayDone H play end p w after = IsPlayed H play end p w after ⊎ IsNotPlayed H play end p w after
 
--- the operator is listed and its line printed; or its line is cut off, and it stays listed; or
--- nothing is changed and printed
+-- the operator is enrolled and its line printed; or its line is cut off, and the operator stays enrolled; or
+-- nothing is changed or printed
 abbrev pub IsEnrolled :
     Type 0 → Enrolment → Ending → Course (Option (List ℕ)) → DeskWorld → DeskWorld → Type 0
 IsEnrolled H enrolment end writes w after =

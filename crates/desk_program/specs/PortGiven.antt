@@ -1,4 +1,4 @@
--- The headline, of what the clients of a port were sent.
+-- PortGiven: the main theorem about what the clients of a port were sent.
 use Rattle.std.specs.Prelude.{◌≡◌, ◌≢◌, ⊤, ℕ, true, List, ◌++◌, All, map, Option, Some, IsSome, option_to_list, Result}
 use Rattle.std.specs.List.{slice_get}
 use Rattle.desk_store.specs.StoreFaults.{IsHonest}
@@ -15,18 +15,19 @@ use Rattle.desk_program.specs.PortPlays.{AreInputsTaken}
 use Rattle.desk_program.specs.PortTurns.{AreTurns, HasTurns, Turn, caller, sent_in, world_met}
 use Rattle.desk_program.specs.Serving.{AreTaken, HasBegunServing, Traffic}
 
--- the request of a turn is this one, with its moment, and its answer was sent whole
+-- r is the request of the turn t, with its moment, and its answer was sent whole
 pub record IsWhole (t : Turn) (r : Sent) : Type 0 where
   pub sent : sent_in t ≡ Some r
   pub answered : t.parting.outcome.is_answered ≡ true
 
--- of the connections that were taken at a port that reports what it closes, if the storage is intact. In
--- their turns the clients were sent the answers of a run over their requests, each at its moment, with the
--- operators of the new enrolments listed where they came (`first`). So one request, sent at one moment in two
--- runs at worlds that look alike to its operator, was given equal bytes where both answers are whole
--- (`decided`); and an operator that sent none and is in none of the new enrolments owns what it did
--- (`quiet`). The same of the command `serve`, and of the command `play` whose requests come from a port, from
--- the world on in which the desk has begun
+-- about the connections of a port that reports what it closes, if the storage is intact:
+--   `first`: they came in turns. In each turn the new enrolments are made, and the client is sent the answer
+--   to its request at its moment, at the world that the turns before left.
+--   `decided`: take a request that came with one moment in a turn of each of two runs, at worlds that look
+--   alike to its operator. If both answers were sent whole, they are equal bytes.
+--   `quiet`: an operator that sent no request and is in none of the new enrolments owns what it did before.
+--   `served`, `played`: the turns of `first`, for the command `serve`, and for `play` with a port. They start
+--   at the world in which the desk has its settings and its first enrolments (`begun`).
 pub record PortGiven : Type 0 where
   pub first : (doubt count : ℕ) (done : Result ⊤ ErrorCode) (port : Course Traffic) (w after : DeskWorld)
       → AreTaken (IsHonest doubt) done count port w after → IsHonest doubt → IsSome port.before.closed

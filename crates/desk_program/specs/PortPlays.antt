@@ -12,26 +12,27 @@ use Rattle.desk_program.specs.Enrolling.{AreListedSoFar, on_terms, with_operator
 use Rattle.desk_program.specs.Keeping.{AreKeptSoFar, IsFoundServed}
 use Rattle.desk_program.specs.Serving.{AreTaken, Traffic}
 
--- the desk plans on the line's terms and its operators are listed, and then requests are taken
+-- the desk gets the command's settings, its operators are enrolled (`begun`), and then connections are served
 pub record AreInputsTaken {A : Type 0} (H : Type 0) (done : Result A ErrorCode) (play : PlayArgs)
     (port : Course Traffic) (w after : DeskWorld) : Type 0 where
   pub begun : DeskWorld
   pub listed : H → begun ≡ with_operators (on_terms w play.desk.terms) play.desk.enrolments.items
   pub taken : AreTaken H done max_answered port begun after
 
--- an operator could not be listed: those before it are, and no request is taken
+-- an operator could not be enrolled: those before it are, and no connection is taken
 pub record AreNoneTaken {A : Type 0} (H : Type 0) (done : Result A ErrorCode) (play : PlayArgs)
     (port : Course Traffic) (w after : DeskWorld) : Type 0 where
   pub broken : IsErrAnd done IsLineBreakdown
   pub untaken : port.after ≡ port.before
   pub listed : AreListedSoFar H play.desk.enrolments.items (on_terms w play.desk.terms) after
 
+-- the command `play` is carried out with the requests of a port
 abbrev pub IsInputPlayed :
     {A : Type 0} → Type 0 → Result A ErrorCode → PlayArgs → Course Traffic → DeskWorld → DeskWorld → Type 0
 IsInputPlayed H done play port w after =
     AreInputsTaken H done play port w after ⊎ AreNoneTaken H done play port w after
 
--- and what is found then
+-- the same, and what the next start may find
 abbrev pub IsInputKept :
     {A : Type 0} → Type 0 → Result A ErrorCode → PlayArgs → Course Traffic → DeskWorld → DeskWorld
     → Option World → Type 0

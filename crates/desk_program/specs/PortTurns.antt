@@ -1,5 +1,5 @@
--- The connections of a port in their turns: which request each had answered, what its client was sent, and
--- what they left.
+-- PortTurns: the connections of a port as turns, one after the other: the request that each had answered,
+-- what its client was sent, and the world that they left.
 use Rattle.std.specs.Prelude.{◌≡◌, ◌<◌, ◌⊎◌, ℕ, Bool, true, false, List, [], ◌∷◌, ◌++◌, length, map, take, Option, None, Some, option_and_then, option_map, option_to_list}
 use Rattle.std.specs.List.{slice_get}
 use Rattle.request_parser.specs.Requests.{asked}
@@ -24,19 +24,20 @@ pub record Turn : Type 0 where
   pub parting : Parting
   pub request : Option (List ℕ)
 
--- the request at the moment of its connection, and the operator that it names
+-- the request with the moment of its connection; None if there is none
 abbrev pub sent_in : Turn → Option Sent
 sent_in t = option_map (λ bytes. (t.arrival.moment, bytes)) t.request
 
+-- the operator that the request names
 abbrev pub caller : Turn → Option (List ℕ)
 caller t = option_and_then sender (sent_in t)
 
--- what turns leave: in each the operators of the new enrolments are listed, and then its request leaves what
--- it does
+-- the world after a request; the same world if there is none
 abbrev pub left_by : DeskWorld → Option Sent → DeskWorld
 left_by w None = w
 left_by w (Some r) = world_after w r.0 (asked r.1)
 
+-- the world after these turns: in each the new enrolments are made, and then the request is carried out
 abbrev pub world_by : DeskWorld → List Turn → DeskWorld
 world_by w [] = w
 world_by w (t ∷ ts) = world_by (left_by (with_operators w t.newly_enrolled) (sent_in t)) ts
@@ -61,13 +62,13 @@ IsGiven w t (Some request) = IsTaken t.arrival.bytes t.parting.unread request
 IsGiven w t None =
     (t.parting.sent ≡ Some []) ⊎ ((why : ServerError) × Sends t.parting (server_error_text why))
 
--- of the new enrolments after which no connection was taken, if there are any, the first operators are listed
+-- of the new enrolments after which no connection was taken, if there are any, the first n are made
 abbrev pub ListsLast : Option (List Enrolment) → DeskWorld → DeskWorld → Type 0
 ListsLast None w after = after ≡ w
 ListsLast (Some newly_enrolled) w after = (n : ℕ) × (after ≡ with_operators w (take n newly_enrolled))
 
--- the connections and the new enrolments that a port reports came in these turns: their clients were sent
--- what is given in each, and that is what they left
+-- the connections and the new enrolments that a port reports came in these turns, and each client was sent
+-- what its turn gives; `after` is the world that they left, `last` the new enrolments after the last turn
 pub record AreTurns (port : Course Traffic) (w after : DeskWorld) (turns : List Turn)
     (last : Option (List Enrolment)) : Type 0 where
   pub taken : Grows port.before.taken port.after.taken (map (λ t. t.arrival) turns)
@@ -77,6 +78,7 @@ pub record AreTurns (port : Course Traffic) (w after : DeskWorld) (turns : List 
       → IsGiven (world_met w turns i t) t t.request
   pub left : ListsLast last (world_by w turns) after
 
+-- there are such turns
 abbrev pub HasTurns : Course Traffic → DeskWorld → DeskWorld → Type 0
 HasTurns port w after =
     (turns : List Turn) × (last : Option (List Enrolment)) × AreTurns port w after turns last

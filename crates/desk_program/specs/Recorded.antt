@@ -1,4 +1,4 @@
--- Recorded: what a port has written down of its new enrolments and of its connections
+-- Recorded: what a port has written to its journal of its new enrolments and of its connections
 -- (docs/journal-format.md).
 use Rattle.std.specs.Prelude.{◌≡◌, ◌<◌, ◌⊎◌, ⊤, ℕ, ℤ, nat_abs, length, map, List, [], ◌∷◌, ◌++◌, Bool, true, Option, Some, None, IsTrue}
 use Rattle.std.specs.List.{AllByRecursion}
@@ -15,12 +15,12 @@ pub record Noted : Type 0 where
   pub text : List ℕ
   pub second : ℕ
 
--- more is recorded; or no more is, and this is the text
+-- the state of a journal: it is open, and more may be recorded; or it has ended with this text
 pub data Recorded : Type 0 where
   Open : Noted → Recorded
   Ended : List ℕ → Recorded
 
--- more is recorded, as far as is known
+-- the journal is open, or isn't known
 abbrev pub IsOpen : Option Recorded → Type 0
 IsOpen None = ⊤
 IsOpen (Some (Open n)) = ⊤
@@ -36,11 +36,12 @@ request_entry second bytes = record { kind = kind.Request; number = second; byte
 abbrev pub answer_entry : ℕ → List ℕ → EntryParts
 answer_entry second bytes = record { kind = kind.Answer; number = second; bytes = bytes }
 
+-- a journal with one more entry
 abbrev pub with_entry : Noted → EntryParts → Noted
 with_entry n e = record n { text = n.text ++ entry e }
 
--- with new enrolments; with a request, or nothing where no whole request came; with an answer, or nothing
--- where none was made
+-- a journal with more entries: of new enrolments; of a request, none if no whole request came; of an answer,
+-- none if none was made
 abbrev pub with_news : Noted → List Enrolment → Noted
 with_news n newly_enrolled = record n { text = n.text ++ entries (map operator_entry newly_enrolled) }
 
@@ -57,14 +58,14 @@ with_answer n (b ∷ bytes) = with_entry n (answer_entry n.second (b ∷ bytes))
 abbrev pub AreNamed : List Enrolment → Type 0
 AreNamed newly_enrolled = AllByRecursion (λ e. IsTrue (is_operator_name e.operator)) newly_enrolled
 
--- enrolments that may be made are recorded; no new enrolments are brought once the journal has ended
+-- the new enrolments, all valid, are recorded; a journal that has ended takes none
 abbrev pub RecordsNews : Option Recorded → Option Recorded → List Enrolment → Type 0
 RecordsNews None now newly_enrolled = ⊤
 RecordsNews (Some (Ended text)) now newly_enrolled = ⊥
 RecordsNews (Some (Open n)) now newly_enrolled =
     AreEnrolments newly_enrolled × AreNamed newly_enrolled × (now ≡ Some (Open (with_news n newly_enrolled)))
 
--- what comes from a client is one request, which is recorded at its moment, or nothing
+-- what comes from a client is one whole request, which is recorded with its moment, or nothing
 pub record IsRecorded (n : Noted) (now : Option Recorded) (moment : ℤ) (bytes : Option (List ℕ)) : Type 0
   where
     pub request : List ℕ
@@ -73,7 +74,7 @@ pub record IsRecorded (n : Noted) (now : Option Recorded) (moment : ℤ) (bytes 
     pub range : IsMoment moment
     pub added : now ≡ Some (Open (with_request n moment request))
 
--- no connection is taken once the journal has ended
+-- the request of a connection is recorded; no connection is taken once the journal has ended
 abbrev pub RecordsRequest : Option Recorded → Option Recorded → ℤ → Option (List ℕ) → Type 0
 RecordsRequest None now moment bytes = ⊤
 RecordsRequest (Some (Ended text)) now moment bytes = ⊥
@@ -87,7 +88,7 @@ pub record IsAnswerRecorded (n : Noted) (now : Option Recorded) (sent : Option (
   pub known : sent ≡ Some answer
   pub added : now ≡ Some (Open (with_answer n answer))
 
--- or it is lost, and the journal ends
+-- an answer is recorded; or it is not, and the journal ends
 abbrev pub RecordsAnswer : Option Recorded → Option Recorded → Option (List ℕ) → Bool → Type 0
 RecordsAnswer None now sent is_answered = ⊤
 RecordsAnswer (Some (Ended text)) now sent is_answered = now ≡ Some (Ended text)
@@ -102,7 +103,7 @@ pub record IsCutOff (n : Noted) (now : Option Recorded) : Type 0 where
   pub request : List ℕ
   pub ended : now ≡ Some (Ended (with_request (with_news n newly_enrolled) moment request).text)
 
--- nothing is brought or taken
+-- nothing is recorded; or the journal ends, since something could not be written
 abbrev pub RecordsNone : Option Recorded → Option Recorded → Type 0
 RecordsNone None now = ⊤
 RecordsNone (Some (Ended text)) now = now ≡ Some (Ended text)

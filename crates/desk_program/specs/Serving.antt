@@ -16,11 +16,11 @@ use Rattle.desk_program.specs.declared.port.ExchangeEnd.{ExchangeEnd}
 use Rattle.desk_program.specs.Enrolling.{AreEnrolled, AreListedSoFar, on_terms, with_operators}
 use Rattle.desk_program.specs.Recorded.{IsOpen, Recorded, RecordsAnswer, RecordsNews, RecordsNone, RecordsRequest}
 
--- what is printed when the port is listened at
+-- the line that says that the port is open
 abbrev pub listening_line : ℕ → List ℕ
 listening_line port = codes "listening 127.0.0.1:" ++ (decimal port ++ codes "\n")
 
--- why a port can't be opened
+-- the line that reports why the port can't be opened
 abbrev pub port_line : ℕ → List ℕ → List ℕ
 port_line port cause =
     codes "uss_desk: 127.0.0.1:" ++ (decimal port ++ (codes ": " ++ (cause ++ codes "\n")))
@@ -31,6 +31,7 @@ pub record Arrival : Type 0 where
   pub moment : ℤ
   pub bytes : Option (List ℕ)
 
+-- such a connection, by its parts
 abbrev pub arrived : ℤ → Option (List ℕ) → Arrival
 arrived moment bytes = record { moment = moment; bytes = bytes }
 
@@ -41,6 +42,7 @@ pub record Parting : Type 0 where
   pub sent : Option (List ℕ)
   pub outcome : ExchangeEnd
 
+-- such a connection, by its parts
 abbrev pub parted : Option (List ℕ) → Option (List ℕ) → ExchangeEnd → Parting
 parted unread sent outcome = record { unread = unread; sent = sent; outcome = outcome }
 
@@ -54,54 +56,59 @@ pub record Traffic : Type 0 where
   pub newly_enrolled : Option (List (List Enrolment))
   pub recorded : Option Recorded
 
+-- nothing is known of the port
 abbrev pub unreported : Traffic
 unreported = record { listened = None; taken = None; closed = None; newly_enrolled = None; recorded = None }
 
--- what is known is followed by these
+-- the list `more` is added to the end of a list, if the list is known
 abbrev pub Grows : {A : Type 0} → Option (List A) → Option (List A) → List A → Type 0
 Grows None new more = ⊤
 Grows (Some old) None more = ⊥
 Grows (Some old) (Some new) more = new ≡ old ++ more
 
--- it is asked to listen at a number, and does, or can't; a connection is taken; one is closed; new enrolments
--- are brought
+-- the port is asked to listen at a number, and `does`, or can't
 abbrev pub Listens : Traffic → Traffic → ℕ → Bool → Type 0
 Listens old new number does = Grows old.listened new.listened ((number, does) ∷ [])
     × (new.taken ≡ old.taken) × (new.closed ≡ old.closed) × (new.newly_enrolled ≡ old.newly_enrolled)
     × (new.recorded ≡ old.recorded)
 
+-- the port is asked to listen at a number, whether it does or can't
 abbrev pub IsAskedToListen : Traffic → Traffic → ℕ → Type 0
 IsAskedToListen old new number = (does : Bool) × Listens old new number does
 
--- something is printed only if the port listens at a number then
+-- something is printed only if the port was asked to listen at the number and does
 abbrev pub PrintsIfListening : Course Traffic → ℕ → Course (Option (List ℕ)) → Type 0
 PrintsIfListening port number writes =
     Grows port.before.listened port.after.listened ((number, true) ∷ []) ⊎ (writes.after ≡ writes.before)
 
+-- a connection is taken, and its request is recorded
 abbrev pub TakesArrival : Traffic → Traffic → Arrival → Type 0
 TakesArrival old new arrival = Grows old.taken new.taken (arrival ∷ []) × (new.closed ≡ old.closed)
     × (new.listened ≡ old.listened) × (new.newly_enrolled ≡ old.newly_enrolled)
     × RecordsRequest old.recorded new.recorded arrival.moment arrival.bytes
 
+-- a connection is closed, and its answer is recorded
 abbrev pub Closes : Traffic → Traffic → Parting → Type 0
 Closes old new parting = Grows old.closed new.closed (parting ∷ []) × (new.taken ≡ old.taken)
     × (new.listened ≡ old.listened) × (new.newly_enrolled ≡ old.newly_enrolled)
     × RecordsAnswer old.recorded new.recorded parting.sent parting.outcome.is_answered
 
+-- new enrolments are returned, and recorded
 abbrev pub BringsNews : Traffic → Traffic → List Enrolment → Type 0
 BringsNews old new enrolments = Grows old.newly_enrolled new.newly_enrolled (enrolments ∷ []) × (new.taken ≡ old.taken)
     × (new.closed ≡ old.closed) × (new.listened ≡ old.listened)
     × RecordsNews old.recorded new.recorded enrolments
 
--- nothing is brought, taken or closed, and the record goes on or is cut off
+-- nothing is returned, taken or closed, and the journal goes on or is cut off
 abbrev pub Denies : Traffic → Traffic → Type 0
 Denies old new = (new.listened ≡ old.listened) × (new.taken ≡ old.taken) × (new.closed ≡ old.closed)
     × (new.newly_enrolled ≡ old.newly_enrolled) × RecordsNone old.recorded new.recorded
 
--- at a port that reports what it closes, or what it has recorded, nothing was sent yet
+-- nothing was sent to the client yet, if the port reports what it closes
 abbrev pub IsUnsent : Traffic → Option (List ℕ) → Type 0
 IsUnsent port out = IfSome port.closed (λ partings. out ≡ Some [])
 
+-- the same, if the port reports what it closes or what it has recorded
 abbrev pub IsFresh : Traffic → Option (List ℕ) → Type 0
 IsFresh port out = IsUnsent port out × IfSome port.recorded (λ recorded. out ≡ Some [])
 
@@ -114,21 +121,22 @@ pub record Exchange : Type 0 where
   pub served : Result Served ServeFault
   pub parting : Parting
 
--- the bytes that it brought, and those that its client was sent
+-- the bytes of the client before and after the request was read, and those sent before and after the answer
 abbrev pub passage_of : Exchange → Passage
 passage_of x = passed x.arrival.bytes x.parting.unread x.out x.parting.sent
 
--- false only of a request that was answered whole, where the place of the next isn't known
+-- whether a request was read to its end: false only if it was answered though its end isn't known
 abbrev pub is_whole : Result Served ServeFault → Bool
 is_whole (Ok (Answered status framed)) = framed
 is_whole (Ok End) = true
 is_whole (Err fault) = true
 
--- the answer is written whole, or no request came
+-- whether the answer was written whole, or no request came
 abbrev pub is_answered : Result Served ServeFault → Bool
 is_answered (Ok served) = true
 is_answered (Err fault) = false
 
+-- how a request ended, as the port is told at the close
 abbrev pub outcome_of : Result Served ServeFault → ExchangeEnd
 outcome_of served = record { is_whole = is_whole served; is_answered = is_answered served }
 
@@ -153,8 +161,8 @@ AreNoted old (x ∷ xs) last new =
     × IfSome answered (λ recorded. failure_at x.served ≢ None → new ≡ answered)
     × AreNoted answered xs last new
 
--- the requests of connections are served one after the other, each at the moment of its connection, once the
--- operators of its new enrolments are listed
+-- the requests of connections are served one after the other, each at the moment of its connection, after the
+-- new enrolments that came before it were made
 abbrev pub AreServed : Type 0 → List Exchange → DeskWorld → DeskWorld → Type 0
 AreServed H [] w after = after ≡ w
 AreServed H (x ∷ xs) w after =
@@ -164,58 +172,58 @@ AreServed H (x ∷ xs) w after =
     × HasServed H x.served (passage_of x) listed x.arrival.moment between
     × AreServed H xs between after
 
--- why the desk ends after a result; none if it goes on
+-- the error of a result; None if it is Ok
 abbrev pub failing : {A : Type 0} → Result A ErrorCode → Option ErrorCode
 failing (Ok done) = None
 failing (Err failure) = Some failure
 
--- the first of two failures, if there is one
+-- the first of two failures, or else the second; None if there is neither
 abbrev pub first_failure : Option ErrorCode → Option ErrorCode → Option ErrorCode
 first_failure None then = then
 first_failure (Some failure) then = Some failure
 
--- the machine denied memory, a write, a connection or the moment; or a request, or the answer to one, can't
--- be recorded: the client was answered that the desk failed
+-- the errors of a port: memory ran out, a write failed, no connection can be had, the clock is out of range,
+-- or the journal can't be written
 abbrev pub IsDenied : ErrorCode → Type 0
 IsDenied f =
     (f ≡ failure.Memory) ⊎ (f ≡ failure.Write) ⊎ (f ≡ failure.Network) ⊎ (f ≡ failure.Clock)
     ⊎ (f ≡ failure.Broken)
 
--- the new enrolments after which no connection was taken: an operator could not be listed, and those before
--- it are; or all are listed, and the machine denied something
+-- the desk ended at new enrolments after which no connection was taken: one could not be made, and those
+-- before it are; or all are made, and then the port failed
 abbrev pub EndsAtNews : Type 0 → ErrorCode → List Enrolment → DeskWorld → DeskWorld → Type 0
 EndsAtNews H f newly_enrolled w after =
     (IsLineBreakdown f × AreListedSoFar H newly_enrolled w after) ⊎ (IsDenied f × AreEnrolled H newly_enrolled w after)
 
--- what was reported after the last connection that was taken is listed, as far as it could be, if the desk
--- ended
+-- new enrolments after the last connection, if there are any: the desk ended there, and they are made as far
+-- as they could be
 abbrev pub IsLastNews :
     {A : Type 0} → Type 0 → Option (List Enrolment) → Result A ErrorCode → DeskWorld → DeskWorld → Type 0
 IsLastNews H None done w after = after ≡ w
 IsLastNews H (Some newly_enrolled) done w after = IsErrAnd done (λ failure. EndsAtNews H failure newly_enrolled w after)
 
--- the new enrolments of connections, and the last of them
+-- the new enrolments before each connection, and then those after the last connection
 abbrev pub news_of : List Exchange → Option (List Enrolment) → List (List Enrolment)
 news_of xs last = map (λ x. x.newly_enrolled) xs ++ option_to_list last
 
--- the failure is what the last of these connections ended the desk with, or came as that was closed or after
--- it, with the new enrolments for which no connection was taken; none before ended the desk
+-- the desk ended with the failure f: at the request of the last of these connections, or as that was closed,
+-- or later, perhaps at new enrolments after it. No connection before ended the desk
 abbrev pub EndsDeskBy : ErrorCode → List Exchange → Option (List Enrolment) → Type 0
 EndsDeskBy f [] None = IsDenied f
 EndsDeskBy f [] (Some newly_enrolled) = ⊤
 EndsDeskBy f (x ∷ xs) last = ((failure_at x.served ≡ None) × EndsDeskBy f xs last)
     ⊎ ((failure_at x.served ≡ Some f) × (xs ≡ []) × (last ≡ None))
 
--- no more connections are taken, since they are as many as were asked for, and the desk failed at none; or
--- by why the desk ended
+-- after Ok, `count` connections were taken, and the desk failed at none; after an error, that is why it ended
 abbrev pub EndsAfter : {A : Type 0} → Result A ErrorCode → ℕ → List Exchange → Option (List Enrolment)
     → Type 0
 EndsAfter (Ok done) count exchanges last =
     (length exchanges ≡ count) × All (λ x. failure_at x.served ≡ None) exchanges
 EndsAfter (Err failure) count exchanges last = EndsDeskBy failure exchanges last
 
--- connections are taken, at most so many, and what is left is what their requests and the new enrolments
--- leave. If that ended well, all that was to be recorded is
+-- at most `count` connections are taken (`exchanges`), and the world after them is what their requests and
+-- the new enrolments leave; `last` are the new enrolments after the last connection. If that ended well, all
+-- that was to be recorded is
 pub record AreTaken {A : Type 0} (H : Type 0) (done : Result A ErrorCode) (count : ℕ)
     (port : Course Traffic) (w after : DeskWorld) : Type 0 where
   pub exchanges : List Exchange
@@ -234,8 +242,8 @@ pub record AreTaken {A : Type 0} (H : Type 0) (done : Result A ErrorCode) (count
   pub untaken : IsLastNews H last done between after
   pub ends : EndsAfter done count exchanges last
 
--- the desk plans on the line's terms and its operators are listed, the port is asked to listen at the line's
--- number, and then connections are taken
+-- the desk gets the command's settings, its operators are enrolled (`begun`), the port is asked to listen at
+-- the command's number, and then connections are taken
 pub record HasBegunServing {A : Type 0} (H : Type 0) (done : Result A ErrorCode) (serve : ServeArgs)
     (port : Course Traffic) (w after : DeskWorld) : Type 0 where
   pub begun : DeskWorld
@@ -244,19 +252,20 @@ pub record HasBegunServing {A : Type 0} (H : Type 0) (done : Result A ErrorCode)
   pub listens : IsAskedToListen port.before listening serve.port
   pub taken : AreTaken H done serve.connections (course listening port.after) begun after
 
--- an operator could not be listed: those before it are, and no connection is taken
+-- an operator could not be enrolled: those before it are, and the port is not used
 pub record IsNotBegun {A : Type 0} (H : Type 0) (done : Result A ErrorCode) (serve : ServeArgs)
     (port : Course Traffic) (w after : DeskWorld) : Type 0 where
   pub broken : IsErrAnd done IsLineBreakdown
   pub untaken : port.after ≡ port.before
   pub listed : AreListedSoFar H serve.desk.enrolments.items (on_terms w serve.desk.terms) after
 
+-- what the command `serve` does at the desk and at the port
 abbrev pub IsAtPort :
     {A : Type 0} → Type 0 → Result A ErrorCode → ServeArgs → Course Traffic → DeskWorld → DeskWorld → Type 0
 IsAtPort H done serve port w after =
     HasBegunServing H done serve port w after ⊎ IsNotBegun H done serve port w after
 
--- the command `serve` is carried out, prints that it listens, if it does, and ends as that does
+-- the command `serve` is carried out, prints that the port is open, if it is, and ends with its result
 pub record IsLineServed (H : Type 0) (serve : ServeArgs) (end : Ending) (port : Course Traffic)
     (writes : Course (Option (List ℕ))) (w after : DeskWorld) : Type 0 where
   pub done : Result ⊤ ErrorCode

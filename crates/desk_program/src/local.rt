@@ -34,8 +34,8 @@ pub struct LocalPort<'s, N: Net, C, G: Drop, E> {
 }
 
 impl<'s, N: Net, C: Clock, G: EnrolmentSource + Drop, E: Write> LocalPort<'s, N, C, G, E> {
-    /// A port that doesn't listen yet. If it can't listen later, the cause is reported to `errors`; a failed
-    /// write there is ignored.
+    /// A port of the network `net` that doesn't listen yet. If `listen` fails later, the cause is reported to
+    /// `errors`; a failed write there is ignored.
     pub fn new(
         net: &'s N,
         clock: &'s C,
@@ -59,7 +59,8 @@ impl<'s, N: Net, C: Clock, G: EnrolmentSource + Drop, E: Write> LocalPort<'s, N,
         }
     }
 
-    // The stream of the next connection: the one that is waiting, or else the next one accepted.
+    // The stream of the next connection: the one that is waiting, or else the next one accepted. `Network` if
+    // the port doesn't listen, or no connection can be accepted.
     fn next_stream(&mut self) -> Result<N::Stream, ErrorCode>
         ensures { IfErr result IsDenied }
     {
@@ -78,6 +79,7 @@ impl<'s, N: Net, C: Clock, G: EnrolmentSource + Drop, E: Write> Port for LocalPo
 
     type Output = DeadlineStream<'s, N::Stream, C>;
 
+    // Opens the port `number` of 127.0.0.1, or reports why it can't be opened.
     fn listen(&mut self, number: u16) -> Result<(), ErrorCode>
         ensures listens { Listens unreported unreported number (is_ok result) }
         ensures fault { IfErr result IsDenied }
@@ -100,11 +102,13 @@ impl<'s, N: Net, C: Clock, G: EnrolmentSource + Drop, E: Write> Port for LocalPo
         }
     }
 
+    // Accepts the connection first, so that the enrolments that were added while it was awaited are found.
     fn newly_enrolled(&mut self, alloc: Global) -> Result<Vec<Enrolment>, ErrorCode> {
         self.waiting = Some(self.next_stream()?);
         self.enrolment_source.look(alloc)
     }
 
+    // Reads the clock after the connection was accepted: that is the moment of its request.
     fn take(
         &mut self,
         alloc: Global,
@@ -119,6 +123,7 @@ impl<'s, N: Net, C: Clock, G: EnrolmentSource + Drop, E: Write> Port for LocalPo
         connection_of(alloc, self.clock, now, stream)
     }
 
+    // Discards what the client still sends, and drops the connection. I/O errors are ignored.
     fn close(
         &mut self,
         mut input: BufReader<DeadlineStream<'s, N::Stream, C>>,
@@ -134,7 +139,8 @@ impl<'s, N: Net, C: Clock, G: EnrolmentSource + Drop, E: Write> Port for LocalPo
     }
 }
 
-// Reports to `errors` why the port can't be opened. A failed write and running out of memory are ignored.
+// Reports to `errors` that the port `number` can't be opened, and its `cause`. If memory runs out, nothing is
+// reported; a failed write is ignored.
 fn report_port<E: Write>(alloc: Global, number: u16, cause: &str, errors: &mut E)
     ensures { IsWrittenIfRoom (spec.port_line number cause.now) (E.contents errors.old)
         (E.contents errors.new) }
@@ -144,14 +150,14 @@ fn report_port<E: Write>(alloc: Global, number: u16, cause: &str, errors: &mut E
     }
 }
 
-// Prints a line. A failed write is ignored.
+// Writes `line` to `errors`, up to the first write that fails. The write error is ignored.
 fn report_line<E: Write>(line: &str, errors: &mut E)
     ensures { IsWrittenIfRoom line.now (E.contents errors.old) (E.contents errors.new) }
 {
     let _ = write_whole(errors, line.as_bytes());
 }
 
-// The line that reports why a port can't be opened.
+// The line that reports why the port `number` can't be opened.
 fn port_text(alloc: Global, number: u16, cause: &str) -> Result<String, AllocError>
     ensures { IfOk result (λ text. string_bytes text ≡ spec.port_line number cause.now) }
 {
@@ -172,7 +178,8 @@ fn port_cause(kind: ErrorKind) -> &'static str
     }
 }
 
-// The stream of the next connection. Connections that were aborted before they were accepted are skipped.
+// The stream of the next connection. Connections that were aborted before they were accepted are skipped;
+// `Network` after any other error.
 fn accept_from<L: OpenListener>(listener: &L) -> Result<L::Stream, ErrorCode>
     ensures { IfErr result IsDenied }
 {
@@ -184,11 +191,12 @@ fn accept_from<L: OpenListener>(listener: &L) -> Result<L::Stream, ErrorCode>
     Err(ErrorCode::Network)
 }
 
-// The stream of an accepted connection, or `None` if the client aborted it before.
+// The stream of an accepted connection, or `None` if the client aborted it before. `Network` after any other
+// error.
 fn stream_of<T: Drop>(accepted: io::Result<T>) -> Result<Option<T>, ErrorCode>
     ensures ok { IfOk accepted (λ stream. result ≡ Ok (Some stream)) }
-    ensures passed { IfErr accepted (λ e. error_kind e ≡ ErrorKind.ConnectionAborted → result ≡ Ok None) }
-    ensures ends { IfErr accepted (λ e. error_kind e ≢ ErrorKind.ConnectionAborted
+    ensures aborted { IfErr accepted (λ e. error_kind e ≡ ErrorKind.ConnectionAborted → result ≡ Ok None) }
+    ensures failed { IfErr accepted (λ e. error_kind e ≢ ErrorKind.ConnectionAborted
         → result ≡ Err ErrorCode.Network) }
 {
     match accepted {
@@ -198,7 +206,8 @@ fn stream_of<T: Drop>(accepted: io::Result<T>) -> Result<Option<T>, ErrorCode>
     }
 }
 
-// The connection over `stream`, which was accepted at the time `now`. Both directions get deadlines.
+// The connection over `stream`, which was accepted at the time `now`. Both directions get deadlines. `Clock`
+// if `now` is out of range, `Network` if the stream can't be cloned, `Memory`.
 fn connection_of<'s, T, C: Clock>(
     alloc: Global,
     clock: &'s C,
@@ -226,7 +235,8 @@ where
     }
 }
 
-// The timestamp of a system time; `None` if it isn't from 0 to `MAX_SECOND` seconds after 1970.
+// The timestamp of a system time, in whole seconds, rounded down; `None` if it isn't from 0 to `MAX_SECOND`
+// seconds after 1970.
 fn moment_in(time: SystemTime) -> Option<Moment>
     ensures { option_map (λ moment. moment.second) result ≡ moment_at (system_time_nanos time) }
 {

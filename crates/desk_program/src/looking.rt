@@ -38,8 +38,8 @@ pub struct CheckedFile {
     pub log: u64,
 }
 
-/// Prints what a database file has, and returns the exit report. An error code goes to `errors`; a failed
-/// write there is ignored.
+/// Prints the line of `check`: what a database file has. Returns the exit report. An error code goes to
+/// `errors`; a failed write there is ignored.
 pub fn print_checked<W: Write, E: Write>(
     alloc: Global,
     file: &CheckedFile,
@@ -53,8 +53,8 @@ pub fn print_checked<W: Write, E: Write>(
     print_line(checked_text(alloc, file), output, errors)
 }
 
-/// Prints how many operators and plans were copied, and returns the exit report. An error code goes to
-/// `errors`; a failed write there is ignored.
+/// Prints the line of `copy`: how many operators and plans were copied. Returns the exit report. An error
+/// code goes to `errors`; a failed write there is ignored.
 pub fn print_copied<W: Write, E: Write>(
     alloc: Global,
     operators: usize,
@@ -69,8 +69,8 @@ pub fn print_copied<W: Write, E: Write>(
     print_line(copied_text(alloc, operators, plans), output, errors)
 }
 
-// Prints the last line of a command, or fails with `Memory` if there was none for `text`. Returns the exit
-// report. An error code goes to `errors`; a failed write there is ignored.
+// Prints `text`, the last line of a command; if it is an error, the command fails with `Memory`. Returns the
+// exit report. An error code goes to `errors`; a failed write there is ignored.
 pub(crate) fn print_line<W: Write, E: Write>(
     text: Result<String, AllocError>,
     output: &mut W,
@@ -122,14 +122,14 @@ fn plans_text(alloc: Global, file: &CheckedFile) -> Result<String, AllocError>
     format!(in alloc; "{plans} plans, {live} live, {spans} spans")
 }
 
-// The number of the schema.
+// The number of the schema: 1 if the rows are those of the old schema, else 2.
 fn schema_of(is_old: bool) -> u8
     ensures { result ≡ (if is_old then 1 else 2) }
 {
     if is_old { 1 } else { 2 }
 }
 
-// How a flag is printed.
+// How a flag is printed: `yes` if it is so, else `no`.
 fn yes_or_no(is_so: bool) -> &'static str
     ensures { result.now ≡ (if is_so then codes "yes" else codes "no") }
 {
@@ -162,7 +162,7 @@ fn most_text(alloc: Global, file: &CheckedFile) -> Result<String, AllocError>
     )
 }
 
-// The line of `copy`.
+// The line of `copy`: how many operators and plans were copied.
 #[tactic(auto, unfolding(crate::specs::Looking::copied_line))]
 fn copied_text(alloc: Global, operators: usize, plans: usize) -> Result<String, AllocError>
     ensures { IfOk result (λ text. string_bytes text ≡ spec.copied_line operators plans) }

@@ -10,8 +10,8 @@ use desk_cli::ExitReport;
 use std::alloc::{AllocError, Global};
 use std::io::Write;
 
-/// Prints how many plans were migrated, and returns the exit report. An error code goes to `errors`; a failed
-/// write there is ignored.
+/// Prints the line of `migrate`: how many plans were migrated (`count`). Returns the exit report. An error
+/// code goes to `errors`; a failed write there is ignored.
 pub fn print_migrated<W: Write, E: Write>(
     alloc: Global,
     count: u32,
@@ -24,7 +24,7 @@ pub fn print_migrated<W: Write, E: Write>(
     print_line(migrated_text(alloc, count), output, errors)
 }
 
-// The line of `migrate`.
+// The line of `migrate`: `count` is the number of plans.
 #[tactic(auto, unfolding(crate::specs::MovedLine::migrated_line))]
 fn migrated_text(alloc: Global, count: u32) -> Result<String, AllocError>
     ensures { IfOk result (λ text. string_bytes text ≡ spec.migrated_line count) }

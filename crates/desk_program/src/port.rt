@@ -27,7 +27,8 @@ pub struct ClientStream<I, O> {
 /// How the request of a connection ended.
 #[derive(Clone, Copy)]
 pub struct ExchangeEnd {
-    /// Whether the request was read to its end, as far as is known.
+    /// Whether the request was read to its end, as far as is known. False only for an answered request whose
+    /// end isn't known.
     pub is_whole: bool,
     /// Whether the answer was written whole, or no request came.
     pub is_answered: bool,
@@ -35,7 +36,8 @@ pub struct ExchangeEnd {
 
 /// A source of enrolments that the administrator adds while a desk serves.
 pub trait EnrolmentSource {
-    /// The operators to enrol now: none if the source hasn't changed since the last call.
+    /// The operators to enrol now: all of the source if it has changed since the last call, else none; none
+    /// either if it can't be read.
     ///
     /// # Errors
     ///
@@ -64,8 +66,8 @@ pub trait Port {
         ensures listens { Listens (traffic self.old) (traffic self.new) number (is_ok result) }
         ensures fault { IfErr result IsDenied };
 
-    /// Waits for a connection, which `take` then takes, and returns the operators that the administrator
-    /// enrolled since the last call.
+    /// Waits for a connection, which `take` then takes, and returns the new enrolments of the administrator,
+    /// which are to be made before its request is carried out.
     ///
     /// # Errors
     ///
@@ -77,7 +79,7 @@ pub trait Port {
         ensures same { OnErr result (Denies (traffic self.old) (traffic self.new)) }
         ensures fault { IfErr result IsDenied };
 
-    /// Takes the next connection.
+    /// Takes the next connection, to which nothing was sent yet, with the timestamp of its request.
     ///
     /// # Errors
     ///
@@ -90,8 +92,8 @@ pub trait Port {
         ensures same { OnErr result (Denies (traffic self.old) (traffic self.new)) }
         ensures fault { IfErr result IsDenied };
 
-    /// Ends a connection. What came after a whole request is discarded first; the rest of any other request
-    /// is read for a while, so that the client still gets its answer.
+    /// Ends a connection, by the outcome of its request. What came after a whole request is discarded first;
+    /// the rest of any other request is read for a while, so that the client still gets its answer.
     ///
     /// # Errors
     ///

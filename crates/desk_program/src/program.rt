@@ -26,7 +26,7 @@ use io_ends::{PlayEnd, write_whole};
 use std::alloc::{AllocError, Global};
 use std::io::{Read, Write};
 
-// The error code of a run over an input; `None` if it ended with the input.
+// The error code of a run over an input, by how the run ended; `None` if it ended with the input.
 fn failure_after(ended: PlayEnd) -> Option<ErrorCode>
     ensures { result ≡ spec.failure_after ended }
 {
@@ -39,8 +39,9 @@ fn failure_after(ended: PlayEnd) -> Option<ErrorCode>
     }
 }
 
-/// Runs the command `play` at a desk: sets its terms, enrols operators, and answers the requests of the
-/// input. Returns the exit report. An error code goes to `errors`; a failed write there is ignored.
+/// Runs the command `play` with the arguments `line` at a desk: sets its terms, enrols operators, and answers
+/// the requests of the input. If an enrolment fails, nothing is read. Returns the exit report. An error code
+/// goes to `errors`; a failed write there is ignored.
 pub fn play<S: PlanStore, R: Read, W: Write, E: Write>(
     alloc: Global,
     line: &PlayArgs,
@@ -67,8 +68,8 @@ pub fn play<S: PlanStore, R: Read, W: Write, E: Write>(
 }
 
 /// Enrols an operator at a desk, and prints a line that says so. The line is made first, so that nothing is
-/// changed if memory runs out. Returns the exit report. An error code goes to `errors`; a failed write there
-/// is ignored.
+/// changed if there is no memory for it; if it can't be printed, the operator stays enrolled. Returns the
+/// exit report. An error code goes to `errors`; a failed write there is ignored.
 pub fn enrol<S: PlanStore, W: Write, E: Write>(
     alloc: Global,
     enrolment: &Enrolment,
@@ -98,7 +99,7 @@ pub fn enrol<S: PlanStore, W: Write, E: Write>(
     }
 }
 
-// The line of `enrol`.
+// The line of `enrol`: the operator's name and its ceiling.
 #[tactic(auto, unfolding(crate::specs::Enrolling::enrolled_line))]
 fn enrolled_text(alloc: Global, enrolment: &Enrolment) -> Result<String, AllocError>
     ensures { IfOk result (λ text. string_bytes text ≡ enrolling.enrolled_line enrolment.now) }
@@ -144,7 +145,8 @@ pub fn set_up<S: PlanStore>(
     enrol_all(desk, enrolments)
 }
 
-/// Enrols operators in the order given. If there are none, nothing is changed.
+/// Enrols the operators that are new while a desk serves, in the order given. If there are none, the desk is
+/// left as it is.
 ///
 /// # Errors
 ///

@@ -27,8 +27,8 @@ pub struct Streams<R: Drop, W: Drop, E: Drop> {
     pub errors: E,
 }
 
-/// Runs a command at the desk that was opened for it, and returns the exit report and the desk. If opening
-/// failed, that error code goes to the error stream, and nothing else is done.
+/// Runs the command `action` at the desk that was opened for it, and returns the exit report and the desk. If
+/// opening failed, that error code goes to the error stream, nothing else is done, and there is no desk.
 pub fn run_opened<S: PlanStore + Drop, P: Port, R: Read + Drop, W: Write + Drop, E: Write + Drop>(
     alloc: Global,
     action: DeskCommand<'_>,
@@ -52,7 +52,7 @@ pub fn run_opened<S: PlanStore + Drop, P: Port, R: Read + Drop, W: Write + Drop,
     }
 }
 
-// Runs a command at a desk, and returns the exit report.
+// Runs the command `action` at a desk, and returns the exit report. Only `serve` uses the port.
 fn carry_out<S: PlanStore, P: Port, R: Read + Drop, W: Write + Drop, E: Write + Drop>(
     alloc: Global,
     action: DeskCommand<'_>,
@@ -73,8 +73,8 @@ fn carry_out<S: PlanStore, P: Port, R: Read + Drop, W: Write + Drop, E: Write + 
     }
 }
 
-/// Runs `play` or `enrol` at a desk, and returns the exit status. An error code goes to `errors`; a failed
-/// write there is ignored.
+/// Runs the command `line`, which is `play` or `enrol`, at a desk, and returns the exit status. An error code
+/// goes to `errors`; a failed write there is ignored.
 pub fn with_desk<S: PlanStore, R: Read, W: Write, E: Write>(
     alloc: Global,
     line: &Line,
@@ -90,7 +90,8 @@ pub fn with_desk<S: PlanStore, R: Read, W: Write, E: Write>(
     carry_out_portless(alloc, line, desk, input, output, errors).status
 }
 
-// Runs `play` or `enrol` at a desk, for which no port is needed, and returns the exit report.
+// Runs the command `line`, which is `play` or `enrol` and needs no port, at a desk, and returns the exit
+// report.
 fn carry_out_portless<S: PlanStore, R: Read, W: Write, E: Write>(
     alloc: Global,
     line: &Line,

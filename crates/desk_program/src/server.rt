@@ -34,8 +34,8 @@ const MAX_ANSWERED: u32 = 1_000_000;
 /// The HTTP status of an answer that says that the desk failed.
 const SERVER_ERROR: u16 = 500;
 
-/// Runs the command `serve` at a desk, and returns the exit report. An error code goes to `errors`; a failed
-/// write there is ignored.
+/// Runs the command `serve` with the arguments `line` at a desk, and returns the exit report. An error code
+/// goes to `errors`; a failed write there is ignored.
 pub fn serve<S: PlanStore, P: Port, W: Write, E: Write>(
     alloc: Global,
     port: &mut P,
@@ -58,8 +58,9 @@ pub fn serve<S: PlanStore, P: Port, W: Write, E: Write>(
     report_exit(errors, try_serve(alloc, port, line, desk, output))
 }
 
-// Sets the terms of a desk, enrols operators, and serves connections at the port.
-// Long: what is sent, the crash states, what is printed, and why it ends have a clause each.
+// Sets the terms of a desk, enrols operators, opens the port, and serves the connections. If an enrolment
+// fails, the port isn't opened.
+// Long: what is sent, the crash states, what is printed and when, and why it ends have a clause each.
 fn try_serve<S: PlanStore, P: Port, W: Write>(
     alloc: Global,
     port: &mut P,
@@ -85,7 +86,8 @@ fn try_serve<S: PlanStore, P: Port, W: Write>(
     serve_connections(alloc, port, line.connections, desk)
 }
 
-// Opens the port, and prints a line that says so.
+// Opens the port `number`, and then prints a line that says so. If the line can't be printed, the error is
+// returned, and the port stays open.
 fn listen<P: Port, W: Write>(
     alloc: Global,
     port: &mut P,
@@ -104,7 +106,7 @@ fn listen<P: Port, W: Write>(
     print_text(output, &text)
 }
 
-// Prints a text.
+// Prints `text`, up to the first write that fails; the error is `Write` then.
 #[tactic(auto, using(crate::proofs::BegunLemmas::begun_part))]
 fn print_text<W: Write>(output: &mut W, text: &str) -> Result<(), ErrorCode>
     ensures ok { OnOk result (Appends (W.contents output.old) (W.contents output.new) text.now) }
@@ -115,7 +117,7 @@ fn print_text<W: Write>(output: &mut W, text: &str) -> Result<(), ErrorCode>
     Ok(())
 }
 
-// The line that says that the port is open.
+// The line that says that the port number `port` of 127.0.0.1 is open.
 fn listening_text(alloc: Global, port: u16) -> Result<String, AllocError>
     ensures { IfOk result (λ text. string_bytes text ≡ listening_line port) }
 {
@@ -123,7 +125,7 @@ fn listening_text(alloc: Global, port: u16) -> Result<String, AllocError>
 }
 
 /// Runs `play` at a desk with the requests of a port instead of an input: sets the terms, enrols operators,
-/// and answers each request at the timestamp of its connection.
+/// and answers up to 1,000,000 requests, each at the timestamp of its connection.
 ///
 /// # Errors
 ///
@@ -148,7 +150,7 @@ pub fn play_port<S: PlanStore, P: Port>(
     serve_connections(alloc, port, MAX_ANSWERED, desk)
 }
 
-// Serves `count` connections, one after the other.
+// Serves `count` connections, one after the other, up to the first at which the desk stops.
 fn serve_connections<S: PlanStore, P: Port>(
     alloc: Global,
     port: &mut P,
@@ -166,8 +168,8 @@ fn serve_connections<S: PlanStore, P: Port>(
     Ok(())
 }
 
-// Enrols the operators that are new, and serves the next connection. Errors of that connection alone are
-// ignored.
+// Waits for the next connection, makes the new enrolments, and answers its request. Faults of the client,
+// such as a request that is cut short, don't stop the desk.
 fn serve_connection<S: PlanStore, P: Port>(
     alloc: Global,
     port: &mut P,
@@ -192,7 +194,8 @@ fn serve_connection<S: PlanStore, P: Port>(
     exchange_result(served, closed)
 }
 
-// How a request ended, as the port needs to know when its connection is closed.
+// How a request ended, as the port needs to know when its connection is closed. The request counts as whole
+// unless it was answered though its end isn't known.
 fn outcome_of(served: &Result<Served, ServeFault>) -> ExchangeEnd
     ensures { result ≡ spec.outcome_of served.now }
 {
@@ -202,7 +205,8 @@ fn outcome_of(served: &Result<Served, ServeFault>) -> ExchangeEnd
     }
 }
 
-// Why the desk stops after a request, if so; else the result of closing the connection.
+// The result of one connection: why the desk stops after its request, if it does; else the result of closing
+// the connection.
 fn exchange_result(
     served: Result<Served, ServeFault>,
     closed: Result<(), ErrorCode>,
@@ -215,8 +219,8 @@ fn exchange_result(
     }
 }
 
-// Why the desk stops after a request: the answer was a 500, or memory ran out. It goes on after errors of one
-// connection.
+// Why the desk stops after a request: the answer was a 500, or memory ran out. None after faults of the
+// client or its connection: the desk goes on.
 fn failure_of(served: Result<Served, ServeFault>) -> Option<ErrorCode>
     ensures { result ≡ failure_at served }
 {

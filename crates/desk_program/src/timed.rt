@@ -27,16 +27,17 @@ const REST_CHUNK: usize = 4_096;
 const EXTRA_READS: u32 = 16;
 
 /// One direction of a connection. All its reads, or all its writes, together have `PATIENCE` seconds from the
-/// first on; later ones fail.
+/// first on; later ones fail with `TimedOut`.
 #[derive(Drop)]
 pub struct DeadlineStream<'c, T, C> {
     stream: T,
     clock: &'c C,
+    // The deadline, once the first read or write has set it.
     end: Option<Instant>,
 }
 
 impl<'c, T, C> DeadlineStream<'c, T, C> {
-    /// One direction of `stream`. Its time begins with the first read or write.
+    /// One direction of `stream`. Its `PATIENCE` seconds begin with the first read or write.
     pub(crate) fn new(stream: T, clock: &'c C) -> DeadlineStream<'c, T, C>
         ensures stream { result.stream ≡ stream }
         ensures end { result.end ≡ None }
@@ -52,6 +53,7 @@ impl<'c, T, C> DeadlineStream<'c, T, C> {
 impl<T: Read + OpenStream, C: Clock> Read for DeadlineStream<'_, T, C> {
     ghost remaining = { λ s. T.remaining s.stream };
 
+    // Reads into `room`, and waits until the deadline at most.
     fn read(&mut self, room: &mut [u8]) -> io::Result<usize>
         ensures bound { ReadsAtMost result room.new }
         ensures bytes { ReadConsumes (T.remaining self.old.stream) (T.remaining self.new.stream) result
@@ -67,6 +69,7 @@ impl<T: Read + OpenStream, C: Clock> Read for DeadlineStream<'_, T, C> {
 impl<T: Write + OpenStream, C: Clock> Write for DeadlineStream<'_, T, C> {
     ghost contents = { λ s. T.contents s.stream };
 
+    // Writes `bytes` or a beginning of them, and waits until the deadline at most.
     fn write(&mut self, bytes: &[u8]) -> io::Result<usize>
         ensures bound { WritesAtMost result bytes.now }
         ensures bytes { WriteAppends (T.contents self.old.stream) (T.contents self.new.stream) result
@@ -83,8 +86,8 @@ impl<T: Write + OpenStream, C: Clock> Write for DeadlineStream<'_, T, C> {
     }
 }
 
-/// Shuts down the answer to a request that wasn't read whole, and discards the rest of the request for a
-/// while: closing a connection with unread bytes may drop an answer that isn't delivered yet.
+/// Shuts down the answer (`output`) to a request that wasn't read whole, and discards the rest of the request
+/// for a while: closing a connection with unread bytes may drop an answer that isn't delivered yet.
 pub(crate) fn discard_rest<T: Read + OpenStream, C: Clock>(
     input: &mut DeadlineStream<'_, T, C>,
     output: &DeadlineStream<'_, T, C>,
@@ -101,8 +104,9 @@ pub(crate) fn discard_rest<T: Read + OpenStream, C: Clock>(
     Ok(())
 }
 
-/// Shuts down the answer to a request that was read whole, and discards what came after it without waiting
-/// for more: closing a connection with unread bytes may drop an answer that isn't delivered yet.
+/// Shuts down the answer (`output`) to a request that was read whole, and discards what has come after it
+/// without waiting for more: closing a connection with unread bytes may drop an answer that isn't delivered
+/// yet. The error is `WouldBlock` if nothing more is there.
 pub(crate) fn discard_extra<T: Read + OpenStream, C: Clock>(
     input: &mut DeadlineStream<'_, T, C>,
     output: &DeadlineStream<'_, T, C>,
@@ -120,7 +124,7 @@ pub(crate) fn discard_extra<T: Read + OpenStream, C: Clock>(
     Ok(())
 }
 
-// Reads with a wait of at most `REST_WAIT` milliseconds, and not past the deadline.
+// Reads into `room`, waiting `REST_WAIT` milliseconds at most, and not past the deadline.
 fn read_briefly<T: Read + OpenStream, C: Clock>(
     input: &mut DeadlineStream<'_, T, C>,
     room: &mut [u8],
@@ -136,14 +140,14 @@ fn read_briefly<T: Read + OpenStream, C: Clock>(
     input.stream.read(room)
 }
 
-// How long a read or write may wait from `now` until the deadline `end`. The first one sets the deadline,
-// `PATIENCE` seconds later, and no other moves it.
+// How long a read or write that begins at `now` may wait, until the deadline `end`. The first one sets the
+// deadline to `PATIENCE` seconds later, and no other moves it. The error `TimedOut` if the deadline has come.
 fn time_left(now: Instant, end: &mut Option<Instant>) -> io::Result<Duration>
     ensures kept { IfSome end.old (λ last. end.new ≡ Some last) }
     ensures first { end.old ≡ None → IfOk result (λ left. as_nanos left ≡ patience) }
     ensures left { IfOk result (λ left. IsSomeAnd end.new (λ last.
         instant_nanos now + as_nanos left ≡ instant_nanos last)) }
-    ensures whole { IfOk result (λ left. instant_nanos now + as_nanos left
+    ensures deadline { IfOk result (λ left. instant_nanos now + as_nanos left
         ≡ patience_end (option_map instant_nanos end.old) (instant_nanos now)) }
 {
     let last = match *end {
@@ -154,7 +158,8 @@ fn time_left(now: Instant, end: &mut Option<Instant>) -> io::Result<Duration>
     left_until(last, now)
 }
 
-// The deadline of the time that begins at `now`.
+// The deadline if the first read or write begins at `now`: `PATIENCE` seconds later. The error `TimedOut` if
+// the clock has no such time.
 fn end_after(now: Instant) -> io::Result<Instant>
     ensures { IfOk result (λ end. instant_nanos end ≡ instant_nanos now + patience) }
 {
@@ -164,7 +169,7 @@ fn end_after(now: Instant) -> io::Result<Instant>
     }
 }
 
-// How long it is from `now` until `end`; the error `TimedOut` if that has come.
+// How long it is from `now` until the deadline `end`, not 0; the error `TimedOut` if that has come.
 fn left_until(end: Instant, now: Instant) -> io::Result<Duration>
     ensures { IfOk result (λ left. instant_nanos now + as_nanos left ≡ instant_nanos end) }
 {

@@ -4,6 +4,7 @@ use Rattle.desk_run.specs.declared.fault.DeskFault.TheVariants as desk
 use Rattle.desk_replay.specs.declared.fault.ReplayFault.{ReplayFault}
 use Rattle.desk_replay.specs.declared.fault.ReplayFault.TheVariants.{OutOfMemory, Store, NoRecord}
 
+-- the fault of a replay, by the fault of a call of the desk
 abbrev pub replay_fault_of : DeskFault → ReplayFault
 replay_fault_of desk.OutOfMemory = OutOfMemory
 replay_fault_of desk.Store = Store

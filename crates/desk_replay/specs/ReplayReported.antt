@@ -1,4 +1,4 @@
--- ReplayReported: what a line says of a replay, and how it ends.
+-- ReplayReported: what the command `replay` prints, and how it ends.
 use Rattle.std.specs.Prelude.{◌≡◌, ◌≤◌, ◌⊎◌, ⊤, ℕ, Bool, List, [], ◌++◌, codes, decimal, Option, Some, None, Result, Ok, Err}
 use Rattle.std.specs.Option.{IsSomeAnd}
 use Rattle.std.specs.Io.KnownBytes.{Appends}
@@ -17,7 +17,7 @@ use Rattle.desk_replay.specs.declared.stream.ReplayEnd.TheVariants.{End, Until, 
 use Rattle.desk_replay.specs.Replaying.{State}
 use Rattle.desk_replay.specs.Running.{HasReplayed}
 
--- what the end of a replay means; none if all was played that was to be
+-- the error code, by how a replay ended; None if all was replayed that was to be
 abbrev pub failure_of_end : ReplayEnd → Option ErrorCode
 failure_of_end End = None
 failure_of_end Until = None
@@ -31,7 +31,7 @@ failure_of_end (Unplayed fault.NoRecord) = Some failure.NoRecord
 failure_of_end (Unplayed fault.NotNext) = Some failure.NoRecord
 failure_of_end (Unplayed fault.Differs) = Some failure.Differs
 
--- the same in words
+-- why a replay ended, in words for the administrator
 abbrev pub cause_of_end : ReplayEnd → List ℕ
 cause_of_end End = codes "all is played"
 cause_of_end Until = codes "all is played"
@@ -45,37 +45,38 @@ cause_of_end (Unplayed fault.NoRecord) = codes "an entry that no record has ther
 cause_of_end (Unplayed fault.NotNext) = codes "a record that is not the next one"
 cause_of_end (Unplayed fault.Differs) = codes "another answer than the recorded one"
 
--- the line that reports why a replay ended, after how many requests, and before which byte of the input
+-- the line that says after how many requests and at which byte of the input a replay stopped, and why
 unfoldable pub place_line : ℕ → ℕ → List ℕ → List ℕ
 place_line requests place cause =
     codes "uss_desk: request " ++ (decimal requests ++ (codes ", at byte " ++ (decimal place ++ (codes ": "
     ++ (cause ++ codes "\n")))))
 
--- the line that reports that all was played, how many requests, and how many of them made a change
+-- the summary of a complete replay: the number of requests, and of those that changed the database
 unfoldable pub replayed_line : ℕ → ℕ → List ℕ
 replayed_line requests changes =
     codes "replayed " ++ (decimal requests ++ (codes " requests, " ++ (decimal changes
     ++ codes " changes, all answers alike\n")))
 
--- a line is printed; or a write of it failed, or memory ran out for it
+-- a line is printed whole; or a write failed after a beginning of it; or memory ran out, and nothing is
+-- printed
 abbrev pub IsLinePrinted : Result ⊤ ErrorCode → List ℕ → Option (List ℕ) → Option (List ℕ) → Type 0
 IsLinePrinted (Ok done) line out now = Appends out now line
 IsLinePrinted (Err f) line out now =
     ((f ≡ failure.Write) × HasBegun line out now) ⊎ ((f ≡ failure.Memory) × (now ≡ out))
 
--- all was played, and the line that reports it is printed
+-- all was replayed, and the summary is printed, or that failed and is how the command ends
 pub record IsAllPlayed (line : List ℕ) (end : Ending) (writes : Course (Option (List ℕ))) : Type 0 where
   pub done : Result ⊤ ErrorCode
   pub ends : EndsWith done end
   pub printed : IsLinePrinted done line writes.before writes.after
 
--- a line is written, or a beginning of it if a write broke off
+-- a line is written whole, or, if a write failed, a beginning of it
 pub record IsLineWritten (line : List ℕ) (out now : Option (List ℕ)) : Type 0 where
   pub is_cut : Bool
   pub written : HasWritten is_cut line out now
 
--- nothing is printed, and why is reported before the word of the failure, up to a write that fails; or not,
--- if memory ran out for it
+-- nothing goes to the output. To the error writer goes first the line that says where and why, up to a write
+-- that fails, or nothing if memory ran out; and then the error code
 pub record IsFailed (f : ErrorCode) (line : List ℕ) (end : Ending) (writes : Course (Option (List ℕ))) :
     Type 0 where
   pub mid : Option (List ℕ)
@@ -83,18 +84,19 @@ pub record IsFailed (f : ErrorCode) (line : List ℕ) (end : Ending) (writes : C
   pub fails : FailsWith f (record end { before = mid })
   pub unwritten : writes.after ≡ writes.before
 
--- what is said of a replay, by the failure that its end means
+-- what is printed, by the error code of the replay: the summary `line`, or the `cause` and the error code
 abbrev pub IsReportedBy :
     Option ErrorCode → List ℕ → List ℕ → Ending → Course (Option (List ℕ)) → Type 0
 IsReportedBy None line cause end writes = IsAllPlayed line end writes
 IsReportedBy (Some f) line cause end writes = IsFailed f cause end writes
 
+-- what is printed, by how the replay ended
 abbrev pub IsReplayReported : ReplayEnd → ℕ → ℕ → ℕ → Ending → Course (Option (List ℕ)) → Type 0
 IsReplayReported ended requests changes place end writes =
     IsReportedBy (failure_of_end ended) (replayed_line requests changes)
     (place_line requests place (cause_of_end ended)) end writes
 
--- the record of an input is played at a desk, up to where it ends, and what came of it is reported
+-- the journal of an input is replayed at a desk, up to where that ends, and the result is printed
 pub record IsReplayed (H : Type 0) (until : Option ℕ) (p : Passage) (end : Ending) (w after : DeskWorld) :
     Type 0 where
   pub ended : ReplayEnd
@@ -104,8 +106,8 @@ pub record IsReplayed (H : Type 0) (until : Option ℕ) (p : Passage) (end : End
   pub left : state.world ≡ after
   pub reported : IsReplayReported ended state.requests state.changes place end p.writes
 
--- so it is at the desk that was opened, which is there then: it was in no more doubt than it is now, and if
--- each later read was tested then, each is
+-- the same at the desk that was opened, which is returned (`left`). Its doubt about the storage has not
+-- become less, and its reads are still shielded if they were
 abbrev pub Replays :
     {S : Type 0} → Ghosts S → Option ℕ → Passage → Ending → Option (Parts S) → Parts S → Type 0
 Replays g until p end left desk = IsSomeAnd left (λ left.
@@ -113,7 +115,7 @@ Replays g until p end left desk = IsSomeAnd left (λ left.
     × (g.doubt desk.store ≤ g.doubt left.store)
     × (g.is_shielded desk.store → g.is_shielded left.store))
 
--- no desk was opened: the line ends with that failure, nothing is read, and nothing is written
+-- no desk was opened: the command ends with that failure, and nothing is read or written
 abbrev pub IsUnplayed : {S : Type 0} → Passage → Ending → Option S → ErrorCode → Type 0
 IsUnplayed p end left failure = FailsWith failure end × (left ≡ None)
     × (p.reads.after ≡ p.reads.before) × (p.writes.after ≡ p.writes.before)

@@ -1,4 +1,4 @@
--- Replaying: records played at a desk's world, entry by entry (docs/journal-format.md).
+-- Replaying: a journal replayed at a desk's world, entry by entry (docs/journal-format.md).
 use Rattle.std.specs.Prelude.{◌≡◌, ◌⊎◌, ⊤, ℕ, ℤ, pos, ◌+◌, ◌==◌, min, length, is_none, nat_le, nat_lt, ◌^◌, ◌-◌, List, [], ◌∷◌, ◌++◌, Bool, true, false, not, ◌&&◌, ◌||◌, if◌then◌else◌, Option, Some, None, Result, Ok, Err, codes}
 use Rattle.std.specs.Str.{bytes_eq}
 use Rattle.desk_rules.specs.Limits.{max_priority, max_spans, max_total_cells}
@@ -33,7 +33,7 @@ pub record AskingParts : Type 0 where
   pub reopened : Bool
   pub made_change : Bool
 
--- a desk's world at which records were played so far
+-- the state of a replay: the desk's world, and the progress
 pub record State : Type 0 where
   pub world : DeskWorld
   pub record_number : Option ℕ
@@ -43,6 +43,7 @@ pub record State : Type 0 where
   pub requests : ℕ
   pub changes : ℕ
 
+-- the bytes of an optional vector
 abbrev pub bytes_of : {V : Type 0} → (V → List ℕ) → Option V → Option (List ℕ)
 bytes_of items None = None
 bytes_of items (Some v) = Some (items v)
@@ -61,7 +62,7 @@ abbrev pub asking_in : Option Asking → Option AskingParts
 asking_in None = None
 asking_in (Some a) = Some (asking_shown a)
 
--- the state of a desk of this world, by the progress
+-- the state of a replay, by the desk's world and the progress
 abbrev pub progress_state : DeskWorld → Progress → State
 progress_state w p = record {
   world = w;
@@ -73,13 +74,15 @@ progress_state w p = record {
   changes = p.changes;
 }
 
+-- the state of a replay, by the desk and the progress
 abbrev pub state_at : {S : Type 0} → (S → World) → Parts S → Progress → State
 state_at content desk progress = progress_state (world_of content desk) progress
 
--- what comes of an entry: the state after it, or why it is not played
+-- the outcome of an entry: the state after it, or why it can't be replayed
 abbrev pub Outcome : Type 0
 Outcome = Result State ReplayFault
 
+-- the fault if the test is true, else the outcome `next`
 abbrev pub refuse_if : Bool → ReplayFault → Outcome → Outcome
 refuse_if test fault next = if test then Err fault else next
 
@@ -91,16 +94,17 @@ last_moment = 253370764800
 abbrev pub version : List ℕ
 version = codes "1"
 
--- the number of a record follows the last one's
+-- whether the journal file n may follow the last one; the first may have any number
 abbrev pub follows : Option ℕ → ℕ → Bool
 follows None n = true
 follows (Some last) n = n == last + 1
 
+-- the unanswered request, if there is one, has to be repeated by the journal file that begins
 abbrev pub reopened : Option AskingParts → Option AskingParts
 reopened None = None
 reopened (Some a) = Some (record a { reopened = true })
 
--- a record begins: no priority is permitted yet, and any number of spans and of cells
+-- the outcome of the entry with which the journal file n begins: all settings are removed
 unfoldable pub begun : State → ℕ → List ℕ → Outcome
 begun s n bytes =
     refuse_if (not (bytes_eq bytes version)) NoRecord
@@ -113,7 +117,7 @@ begun s n bytes =
       asking = reopened s.asking;
     })))
 
--- a priority is permitted beside the others
+-- the priorities `more` are permitted, if they may be
 abbrev pub permitted_by : State → List ℕ → Result (List ℕ) PermitFault → Outcome
 permitted_by s more (Err fault) = Err NoRecord
 permitted_by s more (Ok permitted) =
@@ -123,12 +127,13 @@ permitted_by s more (Ok permitted) =
       terms = record s.terms { permitted = permitted };
     })
 
+-- the outcome of an entry that permits one more priority
 unfoldable pub permitted : State → ℕ → Outcome
 permitted s p =
     refuse_if (nat_lt max_priority p) NoRecord
     (permitted_by s (s.permitted ++ (p ∷ [])) (permitted_in (s.permitted ++ (p ∷ []))))
 
--- an operator's live plans may have so many spans
+-- the outcome of an entry that limits the spans of an operator's live plans to n
 unfoldable pub spanned : State → ℕ → Outcome
 spanned s n =
     refuse_if (not (nat_le 1 n && nat_le n max_spans)) NoRecord
@@ -137,7 +142,7 @@ spanned s n =
       terms = record s.terms { spans = Some n };
     }))
 
--- an operator's plans may have so many cells
+-- the outcome of an entry that limits the cells of all plans of an operator to n
 unfoldable pub celled : State → ℕ → Outcome
 celled s n =
     refuse_if (not (nat_le 1 n && nat_le n max_total_cells)) NoRecord
@@ -146,46 +151,47 @@ celled s n =
       terms = record s.terms { cells = Some n };
     }))
 
--- an operator is enrolled
+-- the outcome of an entry that enrols an operator
 unfoldable pub listed : State → ℕ → List ℕ → Outcome
 listed s ceiling name =
     refuse_if (not (is_operator_name name)) NoRecord
     (refuse_if (nat_lt max_priority ceiling) NoRecord
     (Ok (record s { world = enrolled s.world name ceiling })))
 
--- it is this request that is to be asked again
+-- whether a request is the unanswered one that has to be repeated
 abbrev pub same_asked : AskingParts → ℕ → List ℕ → Bool
 same_asked a second request = a.reopened && ((a.second == second) && bytes_eq a.request request)
 
--- the first answer to a request that is asked again
+-- the first answer to a request that is repeated: `before`, or, at the first repetition, `answer`
 abbrev pub first_of : Option (List ℕ) → List ℕ → List ℕ
 first_of None answer = answer
 first_of (Some before) answer = before
 
--- whether a request is asked for the first time, or again, with the first answer then; none if it is not
--- its turn
+-- Some None for a request that is new, Some of the first answer for one that is repeated; None if neither
+-- may come here
 abbrev pub request_turn : Option AskingParts → ℕ → List ℕ → Option (Option (List ℕ))
 request_turn None second request = Some None
 request_turn (Some a) second request =
     if same_asked a second request then Some (Some (first_of a.before a.answer)) else None
 
--- one request more, unless it is asked again; as many as 64 bits hold at most
+-- the count of requests after one more; a repeated one isn't counted again. At most the greatest of 64 bits
 abbrev pub counted : Option (List ℕ) → ℕ → ℕ
 counted None n = min (n + 1) (2 ^ 64 - 1)
 counted (Some before) n = n
 
--- whether the request that is asked made a change before
+-- whether the unanswered request, if there is one, changed the database so far
 abbrev pub has_changed : Option AskingParts → Bool
 has_changed None = false
 has_changed (Some a) = a.made_change
 
--- one more that makes a change, unless it made one before; as many as 64 bits hold at most
+-- the count of requests that changed the database after one more: whether it did so before, if it is
+-- repeated, and whether it does so now
 abbrev pub with_change : Bool → Bool → ℕ → ℕ
 with_change true now n = n
 with_change false false n = n
 with_change false true n = min (n + 1) (2 ^ 64 - 1)
 
--- a request is asked at its moment
+-- the outcome of a request that is carried out at its second, by what `request_turn` says
 abbrev pub asked_now : State → ℕ → List ℕ → Option (Option (List ℕ)) → Outcome
 asked_now s second request None = Err NoRecord
 asked_now s second request (Some before) =
@@ -204,25 +210,27 @@ asked_now s second request (Some before) =
           s.changes;
     })
 
+-- the outcome of an entry of a request
 unfoldable pub requested : State → ℕ → List ℕ → Outcome
 requested s second request =
     refuse_if (nat_lt last_moment second) NoRecord
     (asked_now s second request (request_turn s.asking second request))
 
--- an answer says that the desk failed: whether it made the change then is not known
+-- whether an answer is one of the two answers with the status 500, which say that the desk failed
 abbrev pub is_failure : List ℕ → Bool
 is_failure answer =
     bytes_eq answer (server_error_text error.OutOfMemory) || bytes_eq answer (server_error_text error.Store)
 
+-- whether an answer is the first one to a repeated request
 abbrev pub is_first : Option (List ℕ) → List ℕ → Bool
 is_first None answer = false
 is_first (Some before) answer = bytes_eq answer before
 
--- an answer is the desk's
+-- whether a recorded answer is the desk's, now or when the request was carried out first
 abbrev pub is_alike : AskingParts → List ℕ → Bool
 is_alike a answer = bytes_eq answer a.answer || is_first a.before answer
 
--- the recorded answer to the request that is asked: after a failure it is to be asked again
+-- the outcome of a recorded answer to the unanswered request; after a 500 the request stays unanswered
 abbrev pub answered_by : State → Option AskingParts → ℕ → List ℕ → Outcome
 answered_by s None second answer = Err NoRecord
 answered_by s (Some a) second answer =
@@ -230,14 +238,15 @@ answered_by s (Some a) second answer =
     (if is_alike a answer then Ok (record s { asking = None })
     else refuse_if (not (is_failure answer)) Differs (Ok s))
 
+-- the outcome of an entry of an answer
 unfoldable pub taken_answer : State → ℕ → List ℕ → Outcome
 taken_answer s second answer = answered_by s s.asking second answer
 
--- an entry that has no bytes
+-- the outcome `next` of an entry that may have no bytes
 abbrev pub bare : List ℕ → Outcome → Outcome
 bare bytes next = refuse_if (not (length bytes == 0)) NoRecord next
 
--- what comes of an entry in a record that has begun
+-- the outcome of an entry that isn't the first of its journal file
 abbrev pub taken_within : Kind → State → ℕ → List ℕ → Outcome
 taken_within kind.Record s n bytes = Err NoRecord
 taken_within kind.Permitted s n bytes = bare bytes (permitted s n)
@@ -247,6 +256,7 @@ taken_within kind.Operator s n bytes = listed s n bytes
 taken_within kind.Request s n bytes = requested s n bytes
 taken_within kind.Answer s n bytes = taken_answer s n bytes
 
+-- whether an entry is the first of a journal file
 abbrev pub is_record : Kind → Bool
 is_record kind.Record = true
 is_record kind.Permitted = false
@@ -256,7 +266,7 @@ is_record kind.Operator = false
 is_record kind.Request = false
 is_record kind.Answer = false
 
--- what comes of an entry
+-- the outcome of an entry
 unfoldable pub taken : State → EntryParts → Outcome
 taken s e =
     if is_record e.kind then begun s e.number e.bytes
@@ -266,26 +276,27 @@ abbrev pub then_taken : (State → Outcome) → Outcome → Outcome
 then_taken next (Ok s) = next s
 then_taken next (Err fault) = Err fault
 
--- what comes of entries, one after the other, up to the first that is not played
+-- the outcome of entries, one after the other, up to the first that can't be replayed
 unfoldable pub played : State → List EntryParts → Outcome
 played s [] = Ok s
 played s (e ∷ es) = then_taken (λ t. played t es) (taken s e)
 
--- what stops a replay and says nothing of the record
+-- a fault of the desk itself, which says nothing about the journal
 abbrev pub IsOwn : ReplayFault → Type 0
 IsOwn fault = (fault ≡ OutOfMemory) ⊎ (fault ≡ Store)
 
--- if a start could find the desk's content alone before, it finds that of the new desk alone
+-- if the next start could find only the desk's content before, it finds only the new desk's content now
 abbrev pub StaysSettled : {S : Type 0} → Ghosts S → Parts S → Parts S → Type 0
 StaysSettled g old new = IsHonest (g.doubt new.store) → IsSettled g.content g.may_leave old
     → IsSettled g.content g.may_leave new
 
--- the outcome is that new state; or the fault, or one of the desk's own, and all is as it was
+-- after Ok the outcome is the new state; after an error it is that fault, or the fault is the desk's own, and
+-- the state is unchanged
 abbrev pub GivesOutcome : Result ⊤ ReplayFault → Outcome → State → State → Type 0
 GivesOutcome (Ok done) outcome old new = outcome ≡ Ok new
 GivesOutcome (Err fault) outcome old new = (IsOwn fault ⊎ (outcome ≡ Err fault)) × (new ≡ old)
 
--- this is so of a step that is made at a desk
+-- the result `done` and the new state are the outcome of `step` at the desk and the progress before
 abbrev pub StepsAt :
     {S : Type 0} → (S → World) → Result ⊤ ReplayFault → (State → Outcome) → Course (Parts S) → Course Progress
     → Type 0

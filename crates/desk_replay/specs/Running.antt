@@ -1,4 +1,4 @@
--- Running: what comes of a replay of a stream of entries.
+-- Running: a replay of a stream of entries.
 use Rattle.std.specs.Prelude.{◌≡◌, ◌⊎◌, ℕ, ◌^◌, ◌-◌, min, length, List, [], nat_lt, Bool, false, IsTrue, Option, Some, None, Result, Ok, Err}
 use Rattle.std.specs.List.{AllByRecursion}
 use Rattle.std.specs.Io.KnownBytes.{Consumes, IsAtEnd}
@@ -14,7 +14,7 @@ use Rattle.desk_replay.specs.declared.stream.ReplayEnd.{ReplayEnd}
 use Rattle.desk_replay.specs.declared.stream.ReplayEnd.TheVariants.{End, Until, Unread, Unplayed}
 use Rattle.desk_replay.specs.Replaying.{IsOwn, State, played, taken}
 
--- no record has begun
+-- the state before the first entry: no journal file has begun
 abbrev pub start : DeskWorld → State
 start w = record {
   world = w;
@@ -26,6 +26,7 @@ start w = record {
   changes = 0;
 }
 
+-- whether an entry is a request whose second is greater than `until`
 abbrev pub is_too_late : Option ℕ → Kind → ℕ → Bool
 is_too_late None reported n = false
 is_too_late (Some last) kind.Record n = false
@@ -36,11 +37,11 @@ is_too_late (Some last) kind.Operator n = false
 is_too_late (Some last) kind.Request n = nat_lt last n
 is_too_late (Some last) kind.Answer n = false
 
--- how many bytes a text has; as many as 64 bits hold at most
+-- the length of a text in bytes, at most the greatest number of 64 bits
 abbrev pub size_of : List ℕ → ℕ
 size_of text = min (length text) (2 ^ 64 - 1)
 
--- an entry of this size is read, and, if the store is honest, this comes of it
+-- an entry of `size` bytes is read, and, if the storage is intact (H), t is its outcome
 pub record IsEntryPlayed (H : Type 0) (size : ℕ) (reads : Course (Option (List ℕ))) (s t : State) : Type 0
   where
     pub one : EntryParts
@@ -49,7 +50,7 @@ pub record IsEntryPlayed (H : Type 0) (size : ℕ) (reads : Course (Option (List
     pub read : Consumes reads.before reads.after (entry one)
     pub gives : H → taken s one ≡ Ok t
 
--- an entry is read that is not played, for this reason, or for one of the desk's own
+-- an entry is read that can't be replayed: the fault is its outcome, or is the desk's own
 pub record IsEntryRefused (H : Type 0) (fault : ReplayFault) (reads : Course (Option (List ℕ)))
     (s : State) : Type 0 where
   pub one : EntryParts
@@ -57,27 +58,27 @@ pub record IsEntryRefused (H : Type 0) (fault : ReplayFault) (reads : Course (Op
   pub read : Consumes reads.before reads.after (entry one)
   pub refused : H → IsOwn fault ⊎ (taken s one ≡ Err fault)
 
--- a request is read that is asked later than that
+-- a request is read whose second is greater than `until`
 pub record IsTooLate (until : Option ℕ) (reads : Course (Option (List ℕ))) : Type 0 where
   pub one : EntryParts
   pub fits : Fits one
   pub read : Consumes reads.before reads.after (entry one)
   pub later : IsTrue (is_too_late until one.kind one.number)
 
--- why no more entries are played
+-- why the replay ended
 abbrev pub Ends : Type 0 → Option ℕ → ReplayEnd → Course (Option (List ℕ)) → State → Type 0
 Ends H until End reads s = IsAtEnd reads.before
 Ends H until Until reads s = IsTooLate until reads
 Ends H until (Unread fault) reads s = LacksEntry reads.before fault
 Ends H until (Unplayed fault) reads s = IsEntryRefused H fault reads s
 
--- what comes of one step of a replay
+-- one step of a replay: an entry is replayed, or the replay ends and the state is unchanged
 abbrev pub Steps :
     Type 0 → Option ℕ → Result ℕ ReplayEnd → Course (Option (List ℕ)) → State → State → Type 0
 Steps H until (Ok size) reads s t = IsEntryPlayed H size reads s t
 Steps H until (Err end) reads s t = Ends H until end reads s × (H → t ≡ s)
 
--- the first entries of a stream are played, as many as have so many bytes
+-- the first entries of a stream are replayed, which are `place` bytes together
 pub record AreEntriesPlayed (H : Type 0) (place : ℕ) (reads : Course (Option (List ℕ))) (w : DeskWorld)
     (s : State) : Type 0
   where
@@ -87,7 +88,7 @@ pub record AreEntriesPlayed (H : Type 0) (place : ℕ) (reads : Course (Option (
     pub read : Consumes reads.before reads.after (entries all)
     pub gives : H → played (start w) all ≡ Ok s
 
--- and no more; `place` is how many bytes are before what ended it
+-- the first entries are replayed, up to what ended the replay; `place` is how many bytes are before that
 pub record HasReplayed (H : Type 0) (until : Option ℕ) (ended : ReplayEnd) (place : ℕ)
     (reads : Course (Option (List ℕ))) (w : DeskWorld) (t : State) : Type 0 where
   pub mid : Option (List ℕ)

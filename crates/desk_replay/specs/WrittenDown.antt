@@ -1,4 +1,4 @@
--- WrittenDown: what a desk writes down of the requests that it answers.
+-- WrittenDown: what a desk writes to its journal for the requests that it answers.
 use Rattle.std.specs.Prelude.{◌≤◌, ℕ, pos, List, [], ◌∷◌, map}
 use Rattle.desk_record.specs.Record.{EntryParts}
 use Rattle.desk_record.specs.declared.kind.Kind.TheVariants as kind
@@ -13,15 +13,19 @@ pub record Heard : Type 0 where
   pub second : ℕ
   pub request : List ℕ
 
+-- the request with its moment
 abbrev pub sent : Heard → Sent
 sent r = (pos r.second, r.request)
 
+-- the second of the request is a moment
 abbrev pub IsTimely : Heard → Type 0
 IsTimely r = r.second ≤ last_moment
 
+-- the entry of a request
 abbrev pub asking_entry : Heard → EntryParts
 asking_entry r = record { kind = kind.Request; number = r.second; bytes = r.request }
 
+-- the entry of the answer to a request at the world w
 abbrev pub answering_entry : DeskWorld → Heard → EntryParts
 answering_entry w r = record {
   kind = kind.Answer;
@@ -29,7 +33,7 @@ answering_entry w r = record {
   bytes = text_for w (pos r.second) (asked r.request);
 }
 
--- each request, and behind it the answer at the world that those before it leave
+-- the entries of requests: each request, and after it its answer at the world that those before it left
 abbrev pub written : DeskWorld → List Heard → List EntryParts
 written w [] = []
 written w (r ∷ rs) =

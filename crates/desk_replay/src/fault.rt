@@ -35,6 +35,7 @@ impl From<DeskFault> for ReplayFault {
 
     ghost from_gives = { λ fault f. f ≡ replay_fault_of fault };
 
+    // The fault of a call of the desk. What the desk's rules refuse is in no journal.
     fn from(fault: DeskFault) -> ReplayFault {
         match fault {
             DeskFault::OutOfMemory => ReplayFault::OutOfMemory,

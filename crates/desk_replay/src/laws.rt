@@ -1,4 +1,4 @@
-//! Laws of the definitions. Each is the contract of a function that does nothing.
+//! Theorems about the definitions. Each is the contract of a function that does nothing.
 
 ghost use Rattle.std.specs.Prelude.{◌≡◌, None, IsSome, List, Ok, map};
 ghost use Rattle.std.specs.List.{AllByRecursion};
@@ -6,8 +6,9 @@ ghost use Rattle.desk_wire.specs.AllAnswers.{world_left};
 ghost use Rattle.desk_replay.specs.Replaying.{State, played};
 ghost use Rattle.desk_replay.specs.WrittenDown.{Heard, IsTimely, sent, written};
 
-/// Replayed: take the entries that a desk writes for requests that it answers. Their replay in the state
-/// before the first of these requests reports no difference, and results in the state after the last.
+/// Take the entries that a desk writes to its journal for `requests` that it answers one after the other.
+/// Their replay from a state `s` in which a journal file has begun (`record_number`) and no request is
+/// unanswered (`asking`) reports no difference. It ends at the world after the last request.
 pub fn replayed()
     ensures { (s : State) (requests : List Heard) → IsSome s.record_number → s.asking ≡ None →
         AllByRecursion IsTimely requests → (t : State) × (played s (written s.world requests) ≡ Ok t)

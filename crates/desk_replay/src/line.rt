@@ -23,8 +23,8 @@ use std::io::{Read, Write};
 
 /// Replays the journal `input` at the desk `opened`, up to the first request whose Unix second is greater
 /// than `until`, if that is given. Prints how many requests were replayed and how many of them changed the
-/// database, and returns the exit status and the desk. If an entry can't be replayed, where and why goes to
-/// `errors`, and then the error code; if no desk could be opened, only the error code.
+/// database, and returns the exit report and the desk. If an entry can't be replayed, where and why goes to
+/// `errors`, and then the error code; if no desk could be opened, only the error code, and nothing is read.
 pub fn replay_opened<S: PlanStore + Drop, R: Read, W: Write, E: Write>(
     alloc: Global,
     until: Option<u64>,
@@ -49,7 +49,7 @@ pub fn replay_opened<S: PlanStore + Drop, R: Read, W: Write, E: Write>(
     }
 }
 
-// Replays the journal `input` at an open desk, and prints the result.
+// Replays the journal `input` at an open desk, up to `until` as `replay_opened` does, and prints the result.
 fn replay_at_desk<S: PlanStore, R: Read, W: Write, E: Write>(
     alloc: Global,
     until: Option<u64>,
@@ -68,7 +68,8 @@ fn replay_at_desk<S: PlanStore, R: Read, W: Write, E: Write>(
     report_end(alloc, &replayed, output, errors)
 }
 
-// Prints the result of a replay: a summary if all was replayed, else where and why it stopped.
+// Prints the result of a replay: a summary to `output` if all was replayed; else where and why it stopped to
+// `errors`, and then the error code.
 fn report_end<W: Write, E: Write>(
     alloc: Global,
     replayed: &Replayed,
@@ -91,7 +92,7 @@ fn report_end<W: Write, E: Write>(
     }
 }
 
-// The error code of the command for the end of a replay. None if all was replayed.
+// The error code of the command, by how the replay ended. None if all was replayed that was to be.
 fn end_error(ended: ReplayEnd) -> Option<ErrorCode>
     ensures { result ≡ spec.failure_of_end ended }
 {
@@ -109,7 +110,7 @@ fn end_error(ended: ReplayEnd) -> Option<ErrorCode>
     }
 }
 
-// Why a replay ended, in words for the administrator.
+// Why a replay ended, in words for the administrator. In these a record is a journal.
 fn end_cause(ended: ReplayEnd) -> &'static str
     ensures { result.now ≡ spec.cause_of_end ended }
 {
@@ -127,7 +128,7 @@ fn end_cause(ended: ReplayEnd) -> &'static str
     }
 }
 
-// Prints the summary of a complete replay.
+// Prints the summary of a complete replay. `Memory` if there is no memory for it; `Write` if a write fails.
 #[tactic(auto, using(crate::proofs::ReportingLemmas::begun_part))]
 fn print_summary<W: Write>(
     alloc: Global,
@@ -143,7 +144,7 @@ fn print_summary<W: Write>(
     Ok(())
 }
 
-// The text of this summary.
+// The summary of a complete replay: how many requests were replayed, and how many changed the database.
 #[tactic(auto, unfolding(crate::specs::ReplayReported::replayed_line))]
 fn summary_line(alloc: Global, requests: u64, changes: u64) -> Result<String, AllocError>
     ensures { IfOk result (λ text. string_bytes text ≡ replayed_line requests changes) }
@@ -151,7 +152,8 @@ fn summary_line(alloc: Global, requests: u64, changes: u64) -> Result<String, Al
     format!(in alloc; "replayed {requests} requests, {changes} changes, all answers alike\n")
 }
 
-// Prints where and why a replay stopped. Write errors are ignored; if memory runs out, nothing is printed.
+// Prints where and why a replay stopped: after `requests` requests, at the byte `place` of the input. Write
+// errors are ignored; if memory runs out, nothing is printed.
 fn report_cause<E: Write>(alloc: Global, requests: u64, place: u64, cause: &str, errors: &mut E)
     ensures { IsLineWritten (place_line requests place cause.now) (E.contents errors.old)
         (E.contents errors.new)
@@ -162,7 +164,7 @@ fn report_cause<E: Write>(alloc: Global, requests: u64, place: u64, cause: &str,
     }
 }
 
-// The line that says where and why a replay stopped.
+// The line that says where and why a replay stopped, as `report_cause` prints it.
 #[tactic(auto, unfolding(crate::specs::ReplayReported::place_line))]
 fn cause_line(alloc: Global, requests: u64, place: u64, cause: &str) -> Result<String, AllocError>
     ensures { IfOk result (λ text. string_bytes text ≡ place_line requests place cause.now) }
@@ -170,7 +172,7 @@ fn cause_line(alloc: Global, requests: u64, place: u64, cause: &str) -> Result<S
     format!(in alloc; "uss_desk: request {requests}, at byte {place}: {cause}\n")
 }
 
-// Writes `text`, and returns the write error, if there was one.
+// Writes `text`, up to the first write that fails, and returns the write error, if there was one.
 #[tactic(auto, using(crate::proofs::ReportingLemmas::begun_part))]
 fn write_line<E: Write>(errors: &mut E, text: &str) -> Option<WriteError<E>>
     ensures { HasWritten (is_some result) text.now (E.contents errors.old) (E.contents errors.new) }

@@ -25,12 +25,12 @@ use io_ends::Moment;
 use std::alloc::{AllocError, Global};
 use volume4d::MAX_SECOND;
 
-/// Replays one entry at a desk.
+/// Replays one entry of a journal at a desk: a setting, an enrolment, a request, or an answer to compare.
 ///
 /// # Errors
 ///
-/// `NoRecord`, `NotNext` or `Differs` because of the entry, `OutOfMemory` or `Store` because of the desk.
-/// Database and `progress` are unchanged then.
+/// `NoRecord`, `NotNext` or `Differs` because of the entry, `OutOfMemory` or `Store` because of the desk. The
+/// desk and `progress` are unchanged then.
 #[tactic(auto, unfolding(crate::specs::Replaying::taken))]
 pub(crate) fn play_entry<S: PlanStore>(
     alloc: Global,
@@ -56,7 +56,8 @@ pub(crate) fn play_entry<S: PlanStore>(
     play_entry_after_header(alloc, desk, progress, kind, number, bytes)
 }
 
-// Replays an entry that isn't the first of a journal file.
+// Replays an entry that isn't the first of a journal file. By its `kind`, `number` and `bytes` are a priority
+// or a limit without bytes, a ceiling and a name, or a second and the bytes of a request or an answer.
 fn play_entry_after_header<S: PlanStore>(
     alloc: Global,
     desk: &mut Desk<S>,
@@ -84,8 +85,9 @@ fn play_entry_after_header<S: PlanStore>(
     }
 }
 
-// Carries out a recorded request at its `second`, if a request may come here, and notes that its recorded
-// answer is to follow.
+// Carries out a recorded request at its Unix `second`, and notes that its recorded answer is to follow.
+// `NoRecord` if no request may come here, or if `second` is above `MAX_SECOND`. A repeated request is carried
+// out again, and counted once.
 #[tactic(auto, unfolding(crate::specs::Replaying::requested))]
 fn replay_request<S: PlanStore>(
     alloc: Global,
@@ -125,7 +127,7 @@ fn replay_request<S: PlanStore>(
     Ok(())
 }
 
-// Whether the request that is repeated, if any, changed the database the first time.
+// Whether the request `asking`, if there is one, changed the database so far.
 fn has_changed(asking: &Option<Asking>) -> bool
     ensures { result ≡ spec.has_changed (asking_in asking.now) }
 {
@@ -135,7 +137,8 @@ fn has_changed(asking: &Option<Asking>) -> bool
     }
 }
 
-// The count of requests that changed the database, after one more; a repeated request is counted once.
+// The count of requests that changed the database, after one more request. `now` is whether that changed it,
+// `before` whether it did so the first time, if it is repeated: it is counted once.
 fn count_change(before: bool, now: bool, changes: u64) -> u64
     ensures { result ≡ spec.with_change before now changes }
 {
@@ -146,8 +149,8 @@ fn count_change(before: bool, now: bool, changes: u64) -> u64
     }
 }
 
-// The first answer to this request if it repeats the unanswered one of the file before; None if it is new. An
-// error if another request is still unanswered.
+// The desk's first answer to this request if it repeats `asking`, the unanswered one of the file before; None
+// if it is new. `NoRecord` if another request is still unanswered, `OutOfMemory` if memory runs out.
 fn first_answer_if_repeated(
     alloc: Global,
     asking: &Option<Asking>,
@@ -172,7 +175,7 @@ fn first_answer_if_repeated(
     Ok(Some(Vec::from_slice(alloc, first)?))
 }
 
-/// Carries out `sent`, the moment and the bytes of one whole request, and returns the answer.
+/// Carries out `sent`, the moment and the bytes of one whole request, at a desk, and returns the answer.
 ///
 /// # Errors
 ///
@@ -199,7 +202,7 @@ pub fn answer_one<S: PlanStore>(
     Ok(answer.bytes)
 }
 
-// As `answer_one`, but returns all of the answer, also whether the database was changed.
+// As `answer_one`, but also returns whether the database was changed.
 // Long: the answer, the state after it, each fault and the crash states have each a clause.
 fn answer_in_full<S: PlanStore>(
     alloc: Global,
@@ -227,8 +230,8 @@ fn answer_in_full<S: PlanStore>(
     }
 }
 
-// Compares a recorded answer with the desk's. If the recorded one is a 500, another answer is accepted, but
-// the request stays unanswered: the next file has to repeat it.
+// Compares the recorded `answer` with the desk's. If the recorded one is a 500, another answer is accepted,
+// but the request stays unanswered: the next file has to repeat it. `NoRecord` if no answer may come here.
 #[tactic(auto, unfolding(crate::specs::Replaying::taken_answer))]
 fn compare_answer(progress: &mut Progress, second: u64, answer: &[u8]) -> Result<(), ReplayFault>
     ensures { (w : DeskWorld)
@@ -252,21 +255,21 @@ fn compare_answer(progress: &mut Progress, second: u64, answer: &[u8]) -> Result
     }
 }
 
-/// Whether `answer` has the status 500: the desk failed.
+/// Whether `answer` is one of the two answers with the status 500, which say that the desk failed.
 pub fn is_500(answer: &[u8]) -> bool
     ensures { result ≡ is_failure answer.now }
 {
     answer == out_of_memory_answer() || answer == store_answer()
 }
 
-// Whether `answer` is the desk's answer to the request, now or when it was carried out first.
+// Whether `answer` is the desk's answer to the request `asking`, now or when it was carried out first.
 fn is_expected(asking: &Asking, answer: &[u8]) -> bool
     ensures { result ≡ spec.is_alike (asking_shown asking.now) answer.now }
 {
     answer == asking.answer.as_slice() || is_first_answer(&asking.before, answer)
 }
 
-// Whether `answer` is the first answer to a repeated request.
+// Whether `answer` is `before`, the first answer to a repeated request; false if it isn't repeated.
 fn is_first_answer(before: &Option<Vec<u8>>, answer: &[u8]) -> bool
     ensures { result ≡ spec.is_first (bytes_of (λ v. v.items) before.now) answer.now }
 {

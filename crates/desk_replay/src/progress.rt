@@ -13,6 +13,7 @@ use std::alloc::Global;
 pub struct Asking {
     /// The Unix second of the request.
     pub second: u64,
+    /// The bytes of the request.
     pub request: Vec<u8>,
     /// The desk's answer.
     pub answer: Vec<u8>,
@@ -34,6 +35,7 @@ pub struct Progress {
     pub permitted: Vec<u32>,
     /// The settings that it has so far.
     pub terms: Terms,
+    /// The request that has no recorded answer yet, if there is one.
     pub asking: Option<Asking>,
     /// How many requests were replayed; a repeated one counts once.
     pub requests: u64,
@@ -42,7 +44,7 @@ pub struct Progress {
 }
 
 impl Progress {
-    /// The progress before the first entry.
+    /// The progress before the first entry: no journal file has begun.
     pub fn none(alloc: Global) -> Progress
         ensures { (w : DeskWorld) → progress_state w result ≡ start w }
     {
@@ -57,8 +59,8 @@ impl Progress {
     }
 }
 
-/// Whether the journal file `number` may follow the file `last`: it is the next one, or the first that is
-/// replayed.
+/// Whether the journal file `number` may follow the file `last`: it is the next one, or, if there is no last
+/// one, the first that is replayed, which may have any number.
 pub(crate) fn may_follow(last: Option<u64>, number: u64) -> bool
     ensures { result ≡ follows last number }
 {

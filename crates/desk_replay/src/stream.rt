@@ -20,7 +20,7 @@ use desk_store::PlanStore;
 use std::alloc::Global;
 use std::io::Read;
 
-/// The length of an entry without its own bytes: its line, and the line feed at its end.
+/// The length of an entry without its own bytes: its first line, and the line feed at its end.
 const ENTRY_OVERHEAD: u64 = 87;
 
 /// Why a replay ended.
@@ -46,8 +46,8 @@ pub struct Replayed {
     pub ended: ReplayEnd,
 }
 
-/// Replays a journal at a desk, entry by entry, up to the first request whose Unix second is greater than
-/// `until`, if that is given.
+/// Replays the journal `input` at a desk, entry by entry, up to the first request whose Unix second is
+/// greater than `until`, if that is given, or to the first entry that can't be read or replayed.
 pub fn replay<S: PlanStore, R: Read>(
     alloc: Global,
     desk: &mut Desk<S>,
@@ -80,7 +80,8 @@ pub fn replay<S: PlanStore, R: Read>(
     }
 }
 
-// Reads and replays the next entry, and returns its length in bytes. The error says why the replay ends.
+// Reads and replays the next entry, and returns its length in bytes. The error says why the replay ends; then
+// the desk and `progress` are unchanged.
 fn replay_next<S: PlanStore, R: Read>(
     alloc: Global,
     desk: &mut Desk<S>,
@@ -108,7 +109,7 @@ fn replay_next<S: PlanStore, R: Read>(
     }
 }
 
-// The length of an entry, in bytes.
+// The length of the entry `one` in the journal, in bytes; at most `u64::MAX`.
 fn entry_size(one: &Entry) -> u64
     ensures { result ≡ spec.size_of (entry (entry_shown one.now)) }
 {
@@ -116,7 +117,7 @@ fn entry_size(one: &Entry) -> u64
     (one.bytes.len() as u64).saturating_add(ENTRY_OVERHEAD)
 }
 
-// Whether `entry` is a request whose second is greater than `until`.
+// Whether `entry` is a request whose Unix second is greater than `until`; false if `until` isn't given.
 fn is_after_until(until: Option<u64>, entry: &Entry) -> bool
     ensures { result ≡ spec.is_too_late until entry.now.kind entry.now.number }
 {

@@ -19,8 +19,8 @@ use std::alloc::Global;
 /// The version of the format.
 const VERSION: &[u8] = b"1";
 
-/// Begins a journal file: removes all settings, and has an unanswered request repeated. An error if the
-/// version or the file's `number` isn't the expected one.
+/// Begins the journal file `number`: removes all settings, and has an unanswered request repeated. `NoRecord`
+/// if the `version` of the format is another one, `NotNext` if the file may not follow the one before.
 #[tactic(auto, unfolding(crate::specs::Replaying::begun))]
 pub(crate) fn begin_journal<S: PlanStore>(
     alloc: Global,
@@ -49,7 +49,8 @@ pub(crate) fn begin_journal<S: PlanStore>(
     Ok(())
 }
 
-/// Adds a permitted priority: plans of equal priority may overlap.
+/// Adds a permitted `priority`, at which plans of equal priority may overlap. `NoRecord` if it is above
+/// 1,000, not greater than the one before, or the 33rd; `OutOfMemory` if memory runs out.
 #[tactic(auto, unfolding(crate::specs::Replaying::permitted))]
 pub(crate) fn permit<S: PlanStore>(
     desk: &mut Desk<S>,
@@ -75,7 +76,7 @@ pub(crate) fn permit<S: PlanStore>(
     Ok(())
 }
 
-/// Limits the spans of an operator's live plans.
+/// Limits the spans of an operator's live plans to `spans`. `NoRecord` if that is not from 1 to `MAX_SPANS`.
 #[tactic(auto, unfolding(crate::specs::Replaying::spanned))]
 pub(crate) fn limit_spans<S: PlanStore>(
     desk: &mut Desk<S>,
@@ -94,7 +95,8 @@ pub(crate) fn limit_spans<S: PlanStore>(
     Ok(())
 }
 
-/// Limits the cells of all plans of an operator.
+/// Limits the cells of all plans of an operator to `cells`. `NoRecord` if that is not from 1 to
+/// `MAX_TOTAL_CELLS`.
 #[tactic(auto, unfolding(crate::specs::Replaying::celled))]
 pub(crate) fn limit_cells<S: PlanStore>(
     desk: &mut Desk<S>,
@@ -113,7 +115,8 @@ pub(crate) fn limit_cells<S: PlanStore>(
     Ok(())
 }
 
-/// Enrols the operator `name`, or replaces its ceiling.
+/// Enrols the operator `name`, or replaces its ceiling. `NoRecord` if `name` is no operator's name, or the
+/// ceiling is above 1,000; `OutOfMemory` or `Store` because of the desk.
 #[tactic(auto, unfolding(crate::specs::Replaying::listed))]
 pub(crate) fn enrol<S: PlanStore>(
     desk: &mut Desk<S>,

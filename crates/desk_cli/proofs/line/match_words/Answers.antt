@@ -11,9 +11,9 @@ returns-clause-found c =
     (c.in_ok-try_get_matches_from.ensures.matches (ap is_simple app_is ∙ program_is_simple)).1
     ∙ ap (λ (a : App). subcommand_of a (map string_bytes c.args.words.now)) app_is
 
-pub returns-in_err-try_get_matches_from-clause-untaken :
-    goal.returns-in_err-try_get_matches_from-clause-untaken
-returns-in_err-try_get_matches_from-clause-untaken c =
+pub returns-in_err-try_get_matches_from-clause-refused :
+    goal.returns-in_err-try_get_matches_from-clause-refused
+returns-in_err-try_get_matches_from-clause-refused c =
     untaken (map string_bytes c.args.words.now) (app_of c.in_ok-make_command.field-0) _ _
     c.in_ok-make_command.ensures c.from_residual-in_err-try_get_matches_from.ensures.1
     c.in_err-try_get_matches_from.ensures.passes

@@ -8,7 +8,7 @@ returns-clause-given c =
     number_read (λ t r. ExplainsUnsignedError 10 t r) (λ t r. HasUnsignedDigitsIfOk t r) 32
     (found_of c.args.given.now) c.args.id.now c.get_one.result c.get_one.ensures.none c.get_one.ensures.value
 
-pub returns-clause-none : goal.returns-clause-none
-returns-clause-none c =
+pub returns-clause-refused : goal.returns-clause-refused
+returns-clause-refused c =
     number_none (λ t r. ExplainsUnsignedError 10 t r) (λ t r. HasUnsignedDigitsIfOk t r) 32
     (found_of c.args.given.now) c.args.id.now c.get_one.result c.get_one.ensures.value

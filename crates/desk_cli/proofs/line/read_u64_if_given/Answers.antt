@@ -9,8 +9,8 @@ returns-clause-given c =
     (found_of c.args.given.now) c.args.id.now c.try_get_one.result c.ok.result c.ok.ensures.value
     c.try_get_one.ensures.none c.try_get_one.ensures.value
 
-pub returns-clause-none : goal.returns-clause-none
-returns-clause-none c =
+pub returns-clause-refused : goal.returns-clause-refused
+returns-clause-refused c =
     tried_none (λ t r. ExplainsUnsignedError 10 t r) (λ t r. HasUnsignedDigitsIfOk t r) 64
     (found_of c.args.given.now) c.args.id.now c.try_get_one.result c.ok.result c.ok.ensures.value
     c.try_get_one.ensures.none c.try_get_one.ensures.value
