@@ -3,7 +3,8 @@ use Rattle.std.specs.Prelude.{◌≤◌, ℕ, List}
 use Rattle.sqlite_wal.specs.PageSize.{IsPageSize}
 use Rattle.sqlite_wal.specs.Recovery.{Replays}
 
--- recovery takes the first frames of a log, one or more, for pages of a size that SQLite allows
+-- a log has a commit: recovery accepts its first `frames` frames, one or more, with pages of `page` bytes, a
+-- size that SQLite allows
 pub record HasCommit (log : List ℕ) : Type 0 where
   pub page : ℕ
   pub size : IsPageSize page

@@ -1,9 +1,10 @@
 -- A log that damage has cut short, and no crash (the SQLite file format, section 4, "The WAL file format").
 --
--- A commit is written behind all that an earlier one has synced, and the place behind its own last frame
--- lacks the log's salts until the next is written there. So of the frames that follow one another with these
--- salts, from the first that recovery does not take, a crash leaves the end of one commit at most. Two ends
--- were written by two commits, of which the first was synced before the second began.
+-- A commit is written after all frames that an earlier commit has synced. The place after its last frame
+-- lacks the log's salts until the next commit is written there. Take the frames that follow one another
+-- with these salts, from the first that recovery does not accept: a crash leaves the end of one commit at
+-- most among them. Two ends were written by two commits, and the first commit was synced before the second
+-- began. So the first was damaged afterwards.
 use Rattle.std.specs.Prelude.{◌≡◌, ◌≤◌, ◌<◌, ℕ, zero, suc, ◌+◌, ◌==◌, ◌&&◌, not, nat_le, if◌then◌else◌, Bool, true, false, List, length}
 use Rattle.std.specs.Str.{bytes_eq}
 use Rattle.sqlite_wal.specs.Format.{part, be32, IsHeader, commit_size}
@@ -16,7 +17,7 @@ use Rattle.db_file.specs.declared.judging.WalState.TheVariants.{Damaged, Sound}
 abbrev pub is_frame_whole : ℕ → List ℕ → ℕ → Bool
 is_frame_whole page log i = nat_le (frame_at page i + (24 + page)) (length log)
 
--- a frame has the salts of this header
+-- a frame has the salts of the header `head`: eight bytes at 8 of the frame, and at 16 of the header
 abbrev pub has_salts : List ℕ → List ℕ → Bool
 has_salts head frame = bytes_eq (part frame 8 8) (part head 16 8)
 
@@ -34,13 +35,14 @@ ends_in page log from zero = 0
 ends_in page log from (suc n) =
     ends_in page log from n + (if ends_commit (frame page log (from + n)) then 1 else 0)
 
--- from frame `from` on n frames have the log's salts, and no more
+-- just n frames from frame `from` on have the log's salts: the frame after them is not whole or lacks the
+-- salts
 pub record IsRunOfFrames (page : ℕ) (log : List ℕ) (from n : ℕ) : Type 0 where
   pub salted : (i : ℕ) → i < n → is_salted page log (from + i) ≡ true
   pub ended : is_salted page log (from + n) ≡ false
 
--- Recovery stops at frame `stop`, and among the frames from there on that have the log's salts two commits
--- end or more. Such a log of pages of this size is damaged at that frame, and loses these commits.
+-- A log of pages of `page` bytes is damaged at frame `stop`, and loses `commits` commits: recovery stops at
+-- that frame, and in the run of frames with the log's salts from there on two commits end or more.
 pub record IsDamagedAt (page : ℕ) (log : List ℕ) (stop commits : ℕ) : Type 0 where
   pub head : IsHeader page (header log)
   pub size : IsPageSize page
@@ -51,7 +53,7 @@ pub record IsDamagedAt (page : ℕ) (log : List ℕ) (stop commits : ℕ) : Type
   pub lost : commits ≡ ends_in page log stop frames
   pub several : 2 ≤ commits
 
--- the log is damaged, with the pages that its header names
+-- the log is damaged at a frame, and loses so many commits: with pages of the size that its header names
 abbrev pub IsDamaged : List ℕ → ℕ → ℕ → Type 0
 IsDamaged log = IsDamagedAt (be32 (header log) 8) log
 
@@ -59,7 +61,8 @@ IsDamaged log = IsDamagedAt (be32 (header log) 8) log
 abbrev pub least_damaged : ℕ
 least_damaged = 1_104
 
--- what is said of a log
+-- the state of a log: it is sound if it is damaged at no frame; else the frame, and the number of lost
+-- commits
 abbrev pub IsVerdict : List ℕ → WalState → Type 0
 IsVerdict log Sound = (stop commits : ℕ) → ¬ IsDamaged log stop commits
 IsVerdict log (Damaged stop commits) = IsDamaged log stop commits

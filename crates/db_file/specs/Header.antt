@@ -1,10 +1,11 @@
 -- Header: what the header of a database file says of its pages (the SQLite file format, section 1.3).
 use Rattle.std.specs.Prelude.{ℕ, ◌==◌, Bool, List, slice_index_or}
 
--- the byte at a place, and 0 past the end
+-- the byte at the index `at`, and 0 past the end
 abbrev pub byte : List ℕ → ℕ → ℕ
 byte bytes at = slice_index_or bytes at 0
 
--- the pages have sums: eight bytes are reserved at the end of each (section 1.3.4)
+-- byte 20 of the file's header reserves eight bytes at the end of each page: the pages then have checksums
+-- (section 1.3.4)
 abbrev pub keeps_checksums : List ℕ → Bool
 keeps_checksums header = byte header 20 == 8

@@ -1,4 +1,4 @@
--- Reads: how the last of some reads came out, and why nothing is found of a log.
+-- Reads: the result of the last of some reads, and why a log was not checked to its end.
 use Rattle.std.specs.Prelude.{◌≡◌, ◌≢◌, ◌≤◌, ◌⊎◌, ◌-◌, ◌^◌, ⊤, ℕ, List, length, Option, IfSome, Result, Ok, Err}
 use Rattle.std.specs.IoError.{error_kind}
 use Rattle.std.specs.declared.io.Error.{Error}
@@ -9,22 +9,23 @@ use Rattle.db_file.specs.declared.reads.LastRead.{LastRead}
 use Rattle.db_file.specs.declared.reads.LastRead.TheVariants.{Failed, Passed}
 use Rattle.db_file.specs.declared.reads.Reads.{Reads}
 
--- how a read came out, by what it answered
+-- what `LastRead` says of a read with this result: it failed, if its error is not an interruption
 abbrev pub IsLastRead : Result ℕ Error → LastRead → Type 0
 IsLastRead (Ok count) Passed = ⊤
 IsLastRead (Ok count) Failed = ⊥
 IsLastRead (Err error) Passed = error_kind error ≡ Interrupted
 IsLastRead (Err error) Failed = error_kind error ≢ Interrupted
 
--- the most reads for one frame: a limit of the desk
+-- the most reads that fill one buffer, for a header or a frame: a limit of the desk
 abbrev pub most_reads : ℕ
 most_reads = 2 ^ 32 - 1
 
--- the last of some reads failed; or there were as many as there may be, which all passed
+-- reading was given up: the last read failed; or there were as many reads as there may be, and the last
+-- passed
 abbrev pub HaveBrokenOff : Reads → Type 0
 HaveBrokenOff reads = (reads.last ≡ Failed) ⊎ ((reads.last ≡ Passed) × (reads.count ≡ most_reads))
 
--- why nothing is found of a log: its reading broke off; or it has 2 ^ 64 bytes or more
+-- why a log was not checked to its end: reading was given up; or the log has 2 ^ 64 bytes or more
 abbrev pub IsUnjudged : Option (List ℕ) → WalError → Type 0
 IsUnjudged log (Unread reads) = HaveBrokenOff reads
 IsUnjudged log Endless = IfSome log (λ bytes. 2 ^ 64 ≤ length bytes)

@@ -15,7 +15,7 @@ before_sum page = take (length page - 8) page
 abbrev pub sum_in : List ℕ → List ℕ
 sum_in page = drop (length page - 8) page
 
--- a page ends with the checksum of the bytes before
+-- a page ends with the right checksum: that of the bytes before it
 abbrev pub has_sum : List ℕ → Bool
 has_sum page = bytes_eq (sum_in page) (sum_of (before_sum page))
 
@@ -23,24 +23,26 @@ has_sum page = bytes_eq (sum_in page) (sum_of (before_sum page))
 abbrev pub unsummed_page : List ℕ → ℕ
 unsummed_page page = if has_sum page then 0 else 1
 
--- the page with its checksum
+-- the page, with its last eight bytes replaced by the checksum of the others
 abbrev pub summed : List ℕ → List ℕ
 summed page = before_sum page ++ sum_of (before_sum page)
 
--- the first so many pages of a file, each with its checksum
+-- the first pages of a file, each with the right checksum: by the page size, and how many pages
 unfoldable pub summed_pages : ℕ → ℕ → List ℕ → List ℕ
 summed_pages size zero bytes = []
-summed_pages size (suc n) bytes = summed (take size bytes) ++ summed_pages size n (drop size bytes)
+summed_pages size (suc n) bytes =
+    summed (take size bytes) ++ summed_pages size n (drop size bytes)
 
--- how many of the first so many pages of a file end with a wrong checksum
+-- how many of the first pages of a file end with a wrong checksum: by the page size, and how many pages
 unfoldable pub unsummed_pages : ℕ → ℕ → List ℕ → ℕ
 unsummed_pages size zero bytes = 0
 unsummed_pages size (suc n) bytes =
     unsummed_page (take size bytes) + unsummed_pages size n (drop size bytes)
 
--- so for all pages of a file: how many end with a wrong checksum, and the file with each page's checksum
+-- how many of all whole pages of a file end with a wrong checksum
 abbrev pub unsummed_in : ℕ → List ℕ → ℕ
 unsummed_in size bytes = unsummed_pages size (length bytes / size) bytes
 
+-- all whole pages of a file, each with the right checksum
 abbrev pub summed_file : ℕ → List ℕ → List ℕ
 summed_file size bytes = summed_pages size (length bytes / size) bytes

@@ -8,9 +8,10 @@ use sqlite_disk::{Disk, Files};
 use sqlite_wal::{probe_frames, probe_page_size};
 use std::alloc::Global;
 
-/// Whether recovery finds a commit in the WAL of the database in `files`. Nothing is written.
+/// Whether recovery finds a commit in the WAL of the database in `files`. Nothing is written. `alloc` holds
+/// the list of the pages found.
 ///
-/// None if that can't be known: the files name no valid page size, one of them can't be read, or memory ran
+/// `None` if that can't be known: the files name no valid page size, one of them can't be read, or memory ran
 /// out.
 pub fn takes_commit<D: Disk>(alloc: Global, files: &mut Files<D>) -> Option<bool>
     requires log { IsTrue (D.Disk.is_usable files.old.log) }

@@ -1,4 +1,4 @@
-//! The first page of a database is rewritten so that it lists the tables in canonical order, in one commit.
+//! Rewrites the first page of a database in one commit, so that it lists the tables in canonical order.
 
 ghost use Rattle.std.specs.Prelude.{◌≡◌, IfErr, IfOk, IfSome, IsSome, IsTrue, OnOk, is_ok};
 ghost use Rattle.sqlite_pager.specs.Pager.{AreUsable, image, state, visible};
@@ -29,8 +29,8 @@ pub struct Ordered<D: Disk> {
     pager: Pager<D>,
 }
 
-/// Files whose first page was not reordered, if they were opened. They can only be dropped, which closes
-/// them.
+/// Files whose first page was not reordered; `None` if they weren't opened. They can only be dropped, which
+/// closes them.
 #[derive(Drop)]
 pub struct Unordered<D: Disk> {
     left: Option<Left<D>>,
@@ -39,18 +39,20 @@ pub struct Unordered<D: Disk> {
 // The files whose first page was not reordered, with the error.
 #[derive(Drop)]
 enum Left<D: Disk> {
-    // Nothing was written: there is no pager over them.
+    // Nothing was written: no pager was made for them.
     Unread(Error, Files<D>),
     // The recovery or the commit failed.
     Uncommitted(Error, Pager<D>),
 }
 
-/// Reorders the first page of the database at `path`, so that it lists the tables in canonical order, in one
-/// commit to its WAL. `start` says what the files held. It returns the files.
+/// Reorders the first page of the database at `path`, so that it lists the tables in canonical order, in
+/// one commit to its WAL. `start` stands for what the files hold before; only the contract uses it. Returns
+/// the files.
 ///
 /// # Errors
 ///
-/// `Unordered` if the files can't be opened, aren't a database, or if the commit failed.
+/// `Unordered`: there are no random numbers for the WAL's salts, the files can't be opened or aren't a
+/// database, memory ran out, or the commit failed.
 pub fn put_in_order<S: Start>(
     rt: &HostRuntime,
     path: &str,
@@ -72,14 +74,15 @@ pub fn put_in_order<S: Start>(
     }
 }
 
-/// Whether the first page was reordered. The files are closed.
+/// Whether the first page was reordered, by the result `done` of `put_in_order`. The files are closed.
 pub fn is_in_order<D: Disk + Drop>(done: Result<Ordered<D>, Unordered<D>>) -> bool
     ensures { result ≡ is_ok done }
 {
     done.is_ok()
 }
 
-// Reorders the first page of the database in `files`, in one commit. `seed` is for the salts of the WAL.
+// Reorders the first page of the database in `files`, in one commit. The salts of the WAL are made from
+// `seed`.
 fn commit_in_order<D: Disk + Drop>(
     alloc: Global,
     seed: u64,
@@ -107,7 +110,8 @@ fn commit_in_order<D: Disk + Drop>(
     }
 }
 
-// Opens a pager over `files`; returns it with their page size. The files are only read.
+// Makes a pager for `files`; returns it with their page size. The files are only read: nothing is recovered
+// yet. `seed` is for the salts of the WAL.
 fn open_pager<D: Disk + Drop>(
     alloc: Global,
     seed: u64,
@@ -115,7 +119,7 @@ fn open_pager<D: Disk + Drop>(
 ) -> Result<(Pager<D>, PageSize), Left<D>>
     requires log { IsTrue (D.Disk.is_usable files.log) }
     requires db { IsTrue (D.Disk.is_usable files.db) }
-    ensures over { IfOk result (λ it. IsOver files it.0) }
+    ensures fresh { IfOk result (λ it. IsOver files it.0) }
     ensures size { IfOk result (λ it. (state it.0).page_size ≡ bytes_of it.1) }
     ensures left { IfErr result (IsLeft (image_of D.Disk files) (leaves D.Disk files)
         (faults_of D.Disk files)) }
@@ -130,7 +134,7 @@ fn open_pager<D: Disk + Drop>(
     }
 }
 
-// Recovers the pages from the files, and reorders the first one, in one commit.
+// Recovers the pages from the files, and reorders the first one, in one commit. `size` is the page size.
 // Long: the result, the state after a crash, and files that can't be recovered have each a clause.
 fn recover_and_reorder<D: Disk>(pager: &mut Pager<D>, size: PageSize) -> Result<(), Error>
     requires usable { AreUsable pager.old }
@@ -143,7 +147,7 @@ fn recover_and_reorder<D: Disk>(pager: &mut Pager<D>, size: PageSize) -> Result<
         (state pager.new).faults (RefusesFiles (bytes_of size) (image pager.old) pager.new) }
     ensures crash { LeavesOrdered (bytes_of size) (image pager.old) (state pager.old).may_leave
         (state pager.new).may_leave }
-    ensures none { IsUnreadable (bytes_of size) (image pager.old)
+    ensures unreadable { IsUnreadable (bytes_of size) (image pager.old)
         → (left : Image) → (state pager.new).may_leave left → (state pager.old).may_leave left }
 {
     pager.recover()?;
@@ -151,10 +155,11 @@ fn recover_and_reorder<D: Disk>(pager: &mut Pager<D>, size: PageSize) -> Result<
 }
 
 /// Reorders the first page of a database, and sets its checksum if pages have checksums, in one commit.
+/// `size` is the page size. A page that needs no reordering is committed too.
 ///
 /// # Errors
 ///
-/// The error of the read or write that failed.
+/// There is no first page, a read or write failed, memory ran out, or the files can't grow (`Full`).
 pub fn reorder_first_page<D: Disk>(pager: &mut Pager<D>, size: PageSize) -> Result<(), Error>
     requires { (state pager.old).page_size ≡ bytes_of size }
     ensures ordered { OnOk result (IsTrue (state pager.new).is_clean
@@ -174,7 +179,7 @@ pub fn reorder_first_page<D: Disk>(pager: &mut Pager<D>, size: PageSize) -> Resu
     pager.commit()
 }
 
-// Reorders a file's first page, and sets its checksum if pages have checksums.
+// Reorders a file's first page as `order_page` does, and sets its checksum if pages have checksums.
 fn reorder_checksummed(page: &mut [u8])
     requires { IsFirstPage page.old }
     ensures { page.new ≡ spec.in_order page.old }

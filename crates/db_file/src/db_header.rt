@@ -6,7 +6,7 @@ ghost use Rattle.db_file.specs.Header as spec;
 
 use sqlite_wal::PageSize;
 
-/// How many bytes of the header are read.
+/// How many bytes of the header are read, of 100: those with the page size and the reserved bytes.
 pub const HEADER: usize = 24;
 
 /// How many bytes the largest page has.
@@ -31,14 +31,16 @@ pub fn byte(bytes: &[u8], at: usize) -> u8
     }
 }
 
-/// Whether the header of a database reserves eight bytes of each page, as pages with checksums need.
+/// Whether the header of a database reserves eight bytes at the end of each page. Its pages are then taken to
+/// have checksums.
 pub fn keeps_checksums(header: &[u8]) -> bool
     ensures { result ≡ spec.keeps_checksums header.now }
 {
     usize::from(byte(header, RESERVED_AT)) == SUM
 }
 
-/// The page size that the header of a database names, if SQLite allows it. The number 1 stands for 65,536.
+/// The page size that the header of a database names, if SQLite allows it. It is a big-endian number of two
+/// bytes; 1 stands for 65,536.
 pub fn page_size_in(header: &[u8; HEADER]) -> Option<PageSize>
     ensures { Names result (size_in_file header.now) }
 {

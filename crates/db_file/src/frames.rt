@@ -1,4 +1,5 @@
-//! The frames of a WAL.
+//! The frames of a WAL. A frame has at 0 the number of its page, at 4 the number of the database's pages if
+//! it ends a commit (else 0), at 8 the salts, at 16 its checksum, and at 24 its page.
 
 ghost use Rattle.std.specs.Prelude.{◌≡◌, ◌↔◌, ◌≤◌, if◌then◌else◌, length, IsTrue};
 ghost use Rattle.sqlite_wal.specs.Format.{IsFrame};
@@ -10,8 +11,8 @@ use sqlite_wal::checksum_of;
 /// How many bytes of a frame come before its page.
 pub const FRAME_HEADER: usize = 24;
 
-/// Whether recovery accepts `frame`: it has the salts of the header `head`, names a page, and its checksum
-/// continues `before`, that of the frame before.
+/// Whether recovery accepts `frame`: it has the salts of the header `head`, names a page, and has the right
+/// checksum. This continues `before`, the checksum of the frame before (or of the header).
 pub fn is_frame_valid(head: &[u8; 32], before: Sum, frame: &[u8]) -> bool
     requires { 24 ≤ length frame.now }
     ensures { IsTrue result ↔ IsFrame head.now before frame.now }
@@ -24,7 +25,7 @@ pub fn is_frame_valid(head: &[u8; 32], before: Sum, frame: &[u8]) -> bool
     checksum_of(big, front, &frame[24..]) == sum_at(frame, 16)
 }
 
-/// Whether `frame` has the salts of the header `head`: else it is left from before the WAL was last reset.
+/// Whether `frame` has the salts of the header `head`. If not, it is left from before the WAL was last reset.
 #[tactic(auto, unfolding(sqlite_wal::specs::Format::part))]
 pub fn has_salts(head: &[u8; 32], frame: &[u8]) -> bool
     requires { 24 ≤ length frame.now }

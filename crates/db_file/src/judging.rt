@@ -16,7 +16,7 @@ use crate::reads::Reads;
 use crate::wal_header::{HEADER, page_size_in};
 use std::io::Read;
 
-// How many bytes the largest frame has.
+// How many bytes the largest frame has: a header of 24, and a page of 65,536.
 const MAX_FRAME: usize = 65_560;
 
 /// Whether a WAL is damaged.
@@ -31,7 +31,7 @@ pub enum WalState {
 /// Why a WAL wasn't checked to its end.
 #[derive(Clone, Copy, Debug, PartialEq, Eq)]
 pub enum WalError {
-    /// A frame wasn't read: the last of these reads failed, or there were 2^32 - 1 of them.
+    /// The header or a frame wasn't read: the last of these reads failed, or there were 2^32 - 1 of them.
     Unread(Reads),
     /// It has 2^64 bytes or more.
     Endless,
@@ -53,7 +53,8 @@ impl From<Reads> for WalError {
 ///
 /// # Errors
 ///
-/// `Unread` if a read failed, and `Endless` if there are 2^64 bytes or more.
+/// `Unread` if a read failed, or 2^32 - 1 reads brought no whole frame; `Endless` if there are 2^64 bytes or
+/// more.
 pub fn check_wal<R: Read>(log: &mut R) -> Result<WalState, WalError>
     ensures value { IfOk result (λ verdict. IfSome (R.remaining log.old) (λ bytes. IsVerdict bytes verdict)) }
     ensures fault { IfErr result (IsUnjudged (R.remaining log.old)) }
@@ -62,7 +63,8 @@ pub fn check_wal<R: Read>(log: &mut R) -> Result<WalState, WalError>
     check_with_buffer(log, &mut room)
 }
 
-// Checks a WAL with `room` as the buffer. One with no valid header is sound: recovery takes nothing of it.
+// Checks a WAL; `room` is the buffer for a frame. A WAL with no valid header is sound: recovery accepts
+// nothing of it.
 fn check_with_buffer<R: Read>(log: &mut R, room: &mut [u8]) -> Result<WalState, WalError>
     requires { length room.old ≡ 65560 }
     ensures value { IfOk result (λ verdict. IfSome (R.remaining log.old) (λ bytes. IsVerdict bytes verdict)) }
@@ -78,7 +80,8 @@ fn check_with_buffer<R: Read>(log: &mut R, room: &mut [u8]) -> Result<WalState, 
     }
 }
 
-// Checks the frames of a WAL with the header `head`. `log` is at the first one, and `frame` is the buffer.
+// Checks the frames of a WAL with the header `head`. `log` is at the first one; `frame` is the buffer,
+// which has the length of a frame.
 fn check_frames<R: Read>(
     log: &mut R,
     head: &[u8; HEADER],
@@ -96,8 +99,9 @@ fn check_frames<R: Read>(
     }
 }
 
-// The state of a WAL in which recovery stops at frame `stop`, which was read last. A crash may tear the last
-// commit, so that it is damaged only if it loses two.
+// The state of a WAL with the header `head`, in which recovery stops at frame number `stop`. This frame was
+// read last, into `frame`. A crash may tear the last commit, so the WAL is damaged only if two or more are
+// lost.
 fn state_at_stop<R: Read>(
     log: &mut R,
     head: &[u8; HEADER],
@@ -120,8 +124,8 @@ fn state_at_stop<R: Read>(
     })
 }
 
-// Reads frames as long as recovery accepts them; returns the number of the first that it doesn't accept,
-// which is then in `frame`, or `None` if the WAL ends before.
+// Reads frames as long as recovery accepts them. Returns the number of the first frame that it doesn't
+// accept, which is then in the buffer `frame`; `None` if the WAL ends before.
 fn find_stop<R: Read>(
     log: &mut R,
     head: &[u8; HEADER],
@@ -148,8 +152,8 @@ fn find_stop<R: Read>(
     Err(WalError::Endless)
 }
 
-// How many commits end at the frame that was read last or after it, up to the first frame without the salts
-// of the header.
+// How many commits end from the frame in the buffer `frame` on, which was read last. The count stops at the
+// first frame without the salts of the header `head`.
 fn count_commits<R: Read>(
     log: &mut R,
     head: &[u8; HEADER],
@@ -174,7 +178,7 @@ fn count_commits<R: Read>(
     Err(WalError::Endless)
 }
 
-// Reads the next frame; returns false if the WAL ends before its end.
+// Reads the next frame into `frame`; returns false if the WAL ends within it.
 fn next_frame<R: Read>(log: &mut R, frame: &mut [u8]) -> Result<bool, Reads>
     ensures value { (page n : ℕ) (bytes : List ℕ) → length frame.old ≡ 24 + page
         → IsBefore page bytes n (R.remaining log.old)

@@ -37,18 +37,21 @@ pub fn stop_without_salts_is_sound()
         → (stop commits : ℕ) → ¬ IsDamaged log stop commits }
 {}
 
-/// The frame at which a WAL is damaged, and the number of commits that are lost, are unique.
+/// The frame at which a WAL is damaged, and the number of lost commits, are unique: `other` and `others`
+/// stand for a second frame and number.
 pub fn damaged_once()
     ensures { (log : List ℕ) (stop commits other others : ℕ) → IsDamaged log stop commits
         → IsDamaged log other others → (stop ≡ other) × (commits ≡ others) }
 {}
 
-/// A damaged WAL has 1,104 bytes or more, so that a shorter one needn't be read.
+/// A damaged WAL has 1,104 bytes or more: a header, and two frames with pages of 512 bytes. So a shorter one
+/// needn't be read.
 pub fn damaged_is_long()
     ensures { (log : List ℕ) (stop commits : ℕ) → IsDamaged log stop commits → least_damaged ≤ length log }
 {}
 
-/// A WAL with a commit has 568 bytes or more, so that a shorter one has none.
+/// A WAL with a commit has 568 bytes or more: a header, and a frame with a page of 512 bytes. So a shorter
+/// one has none.
 pub fn commits_are_long()
     ensures { (log : List ℕ) → HasCommit log → least_with_commit ≤ length log }
 {}

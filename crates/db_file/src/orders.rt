@@ -1,5 +1,7 @@
 //! The order in which a database file lists its tables and indexes: that of the rows of the schema table,
-//! which are on the first page. The canonical order is that in which the desk makes them.
+//! which are on the first page. The canonical order is that in which the desk makes them, the packed order
+//! that in which SQLite's VACUUM leaves them. The first page has the file's header first. Its page header
+//! follows at byte 100, and the pointers to the cells of its rows at byte 108, two bytes for each slot.
 
 ghost use Rattle.std.specs.Prelude.{◌≡◌, ◌≤◌, ◌<◌, ◌++◌, length, take, is_some, IfOk, IfSome, IsErr};
 ghost use Rattle.std.specs.Prelude.{None, OnOk, Some, false, true};
@@ -53,7 +55,8 @@ fn own_name(place: u16) -> &'static [u8]
     name.as_bytes()
 }
 
-// The place in the canonical order of what a packed file has at `place`: all its tables precede the indexes.
+// The place in the canonical order of what a packed file has at `place`. All its tables, with the indexes
+// that SQLite makes for their keys, precede the other indexes.
 fn packed_place(place: u16) -> u16
     ensures { result ≡ spec.packed_place place }
 {
@@ -77,14 +80,14 @@ fn name_at(is_packed: bool, place: u16) -> &'static [u8]
     })
 }
 
-// How many rows a first page has, by its header.
+// How many rows a first page has, by bytes 103 and 104: the number of cells in its page header.
 fn count_of(page: &[u8]) -> u16
     ensures { result ≡ spec.count page.now }
 {
     u16::from(byte(page, 103)) * 256 + u16::from(byte(page, 104))
 }
 
-// Where the cell of the row at `slot` begins.
+// Where the cell of the row at `slot` begins: the two bytes of the slot are its index in the page.
 fn cell(page: &[u8], slot: u16) -> usize
     ensures value { result ≡ spec.cell page.now slot }
     ensures small { result < 65536 }
@@ -93,14 +96,14 @@ fn cell(page: &[u8], slot: u16) -> usize
     usize::from(byte(page, at)) * 256 + usize::from(byte(page, at + 1))
 }
 
-// Whether the size of the row at `slot` is stored in two bytes.
+// Whether the size of the row at `slot`, with which its cell begins, is stored in two bytes or more.
 fn is_long(page: &[u8], slot: u16) -> bool
     ensures { result ≡ spec.is_long page.now slot }
 {
     128 <= byte(page, cell(page, slot))
 }
 
-// Where the rowid of the row at `slot` is.
+// Where the rowid of the row at `slot` is: after the size, in the cell.
 fn rowid_at(page: &[u8], slot: u16) -> usize
     ensures value { result ≡ spec.rowid_at page.now slot }
     ensures small { result < 65538 }
@@ -108,7 +111,8 @@ fn rowid_at(page: &[u8], slot: u16) -> usize
     cell(page, slot) + if is_long(page, slot) { 2 } else { 1 }
 }
 
-// How many bytes the row at `slot` has after its rowid.
+// How many bytes the row at `slot` has after its rowid, by the varint of one or two bytes that its cell
+// begins with.
 fn size(page: &[u8], slot: u16) -> usize
     ensures value { result ≡ spec.size page.now slot }
     ensures small { result < 65536 }
@@ -121,7 +125,8 @@ fn size(page: &[u8], slot: u16) -> usize
     }
 }
 
-// Whether the row at `slot` lies within the page, and its rowid has one byte. Only such rows are reordered.
+// Whether the row at `slot` lies within the page, its size has one byte or two, and its rowid has one. Only
+// such rows are reordered. If the size has one byte, the byte at `cell + 2` is the first of the row.
 fn is_plain(page: &[u8], slot: u16) -> bool
     ensures { result ≡ spec.is_plain page.now slot }
 {
@@ -135,7 +140,7 @@ fn is_plain(page: &[u8], slot: u16) -> bool
     rowid_at(page, slot) + 1 + size(page, slot) <= page.len()
 }
 
-// The bytes of the row at `slot` after its rowid.
+// The bytes of the row at `slot` after its rowid: the lengths of its values, then the values.
 fn row(page: &[u8], slot: u16) -> &[u8]
     requires { spec.is_plain page.now slot ≡ true }
     ensures { result.now ≡ spec.row page.now slot }
@@ -145,14 +150,15 @@ fn row(page: &[u8], slot: u16) -> &[u8]
     row
 }
 
-// How many bytes a text has, by its serial type (the SQLite file format, section 2.1).
+// How many bytes a text has, by its serial type `code` (the SQLite file format, section 2.1).
 fn text_len(code: u8) -> usize
     ensures { result ≡ spec.text_len code }
 {
     usize::from(code.saturating_sub(13)) / 2
 }
 
-// Whether a row of the schema table has `name` as its second column.
+// Whether a row of the schema table has `name` as its second column. Byte 0 of a row says where the values
+// begin; bytes 1 and 2 are the serial types of the first two columns, `type` and `name`, both texts.
 fn has_name(row: &[u8], name: &[u8]) -> bool
     ensures { result ≡ spec.has_name row.now name.now }
 {
@@ -176,7 +182,7 @@ fn is_named(page: &[u8], slot: u16, name: &[u8]) -> bool
     has_name(row(page, slot), name)
 }
 
-// The first slot whose row is that of the table or index `name`.
+// The first slot whose row is that of the table or index `name`; `None` if there is none.
 fn slot_of(page: &[u8], name: &[u8]) -> Option<u16>
     ensures value { result ≡ spec.slot_of page.now name.now }
     ensures plain { IfSome result (λ slot. spec.is_plain page.now slot ≡ true) }
@@ -190,8 +196,8 @@ fn slot_of(page: &[u8], name: &[u8]) -> Option<u16>
     None
 }
 
-// Whether the slot `to` of `page` has the row of the slot `from` of `old`, in the same place, with the rowid
-// `to + 1`.
+// Whether the slot `to` of `page` has the row of the slot `from` of `old`: its cell is at the same place,
+// with the same bytes, but the rowid is `to + 1`.
 fn is_moved(old: &[u8], from: u16, page: &[u8], to: u16) -> bool
     requires { spec.is_plain old.now from ≡ true }
     ensures { result ≡ spec.is_moved old.now from page.now to }
@@ -208,7 +214,8 @@ fn is_moved(old: &[u8], from: u16, page: &[u8], to: u16) -> bool
     row(page, to) == row(old, from)
 }
 
-// Whether the slot `to` of `page` has the row that `old` has of the name at place `to` of an order.
+// Whether the slot `to` of `page` has the row of `old` whose name is at place `to` of the packed order if
+// `is_packed`, else of the canonical order.
 fn is_moved_by_name(is_packed: bool, old: &[u8], page: &[u8], to: u16) -> bool
     ensures { result ≡ spec.is_moved_by_name is_packed old.now page.now to }
 {
@@ -218,7 +225,8 @@ fn is_moved_by_name(is_packed: bool, old: &[u8], page: &[u8], to: u16) -> bool
     }
 }
 
-// Whether the first `count` slots of `page` have the rows of `old` in packed or canonical order.
+// Whether the first `count` slots of `page` have the rows of `old`, in packed order if `is_packed`, else in
+// canonical order.
 fn are_moved(is_packed: bool, old: &[u8], page: &[u8], count: u16) -> bool
     ensures { result ≡ spec.are_moved is_packed old.now page.now 0 count }
 {
@@ -230,14 +238,17 @@ fn are_moved(is_packed: bool, old: &[u8], page: &[u8], count: u16) -> bool
     true
 }
 
-// Whether a page lists its rows in packed or canonical order, with the rowids 1, 2 and so on.
+// Whether a page lists its rows in packed order if `is_packed`, else in canonical order, with the rowids 1,
+// 2 and so on.
 fn are_listed(is_packed: bool, page: &[u8]) -> bool
     ensures { result ≡ spec.are_listed is_packed page.now }
 {
     are_moved(is_packed, page, page, count_of(page))
 }
 
-// Whether a leaf page with at most `ALL` rows lists them in neither the canonical nor the packed order.
+// Whether a page is a leaf with at most `SCHEMA_ENTRIES` rows, and lists them in neither the canonical nor
+// the packed order. Byte 100 is its type. The packed order has all tables and indexes: fewer rows aren't in
+// it.
 fn is_in_other_order(page: &[u8]) -> bool
     ensures { result ≡ spec.is_in_other_order page.now }
 {
@@ -253,7 +264,8 @@ fn is_in_other_order(page: &[u8]) -> bool
     !(count_of(page) == ALL && are_listed(true, page))
 }
 
-// Points the slot `to` of `page` to the cell of the slot `from` of `old`, whose row gets the rowid `to + 1`.
+// Points the slot `to` of `page` to the cell of the slot `from` of `old`, whose row gets the rowid
+// `to + 1`. Both pages have the cell at the same place. The 14 slots end at byte 136.
 fn move_row(old: &[u8], from: u16, to: u16, page: &mut [u8])
     requires plain { spec.is_plain old.now from ≡ true }
     requires room { 136 ≤ length page.old }
@@ -267,8 +279,8 @@ fn move_row(old: &[u8], from: u16, to: u16, page: &mut [u8])
     page[rowid_at(old, from)] = to as u8 + 1;
 }
 
-// Gives the slot `to` of `page` the row that `old` has of the name at that place of the canonical order;
-// returns false if there is none.
+// Gives the slot `to` of `page` the row of `old` whose name is at place `to` of the canonical order;
+// returns false if `old` has no such row.
 fn place_row(old: &[u8], to: u16, page: &mut [u8]) -> bool
     requires room { 136 ≤ length page.old }
     requires same { length page.old ≡ length old.now }
@@ -286,8 +298,8 @@ fn place_row(old: &[u8], to: u16, page: &mut [u8]) -> bool
     }
 }
 
-// Gives the first `count` slots of `page` the rows of `old` in canonical order; returns false if one is
-// missing.
+// Gives the first `count` slots of `page` the rows of `old` in canonical order; returns false if `old`
+// lacks one.
 fn place_rows(old: &[u8], count: u16, page: &mut [u8]) -> bool
     requires room { 136 ≤ length page.old }
     requires same { length page.old ≡ length old.now }
@@ -303,8 +315,10 @@ fn place_rows(old: &[u8], count: u16, page: &mut [u8]) -> bool
     true
 }
 
-// Reorders `page`, a copy of the first page `old`, canonically. Returns false if `old` doesn't list the
-// schema's tables and indexes, or the first few of them, in another order; `page` is then unspecified.
+// Puts the rows of `page`, a copy of the first page `old`, in canonical order. Returns true if `old` lists
+// the schema's tables and indexes, or the first few of them, in an order that is neither canonical nor
+// packed. Else it returns false, and `page` is unspecified. The result is tested at the end, since cells of
+// `old` may overlap.
 fn try_reorder(old: &[u8], page: &mut [u8]) -> bool
     requires room { 136 ≤ length page.old }
     requires same { page.old ≡ old.now }
@@ -333,7 +347,8 @@ fn is_out_of_order(page: &[u8]) -> bool
     try_reorder(page, other)
 }
 
-/// Reorders the rows of a first page canonically, if they are the schema's in another order than the packed.
+/// Puts the rows of a first page in canonical order, if they are the schema's tables and indexes, or the
+/// first few of them, in an order that is neither canonical nor packed. Any other page stays as it is.
 pub fn order_page(page: &mut [u8])
     requires { IsFirstPage page.old }
     ensures { page.new ≡ spec.ordered_page page.old }
@@ -346,7 +361,7 @@ pub fn order_page(page: &mut [u8])
     }
 }
 
-// Reads the first page of a file, and reorders its rows as `order_page` does.
+// Reads the first page of a file into `page`, and reorders its rows as `order_page` does.
 fn read_in_order<R: Read>(file: &mut R, page: &mut [u8]) -> io::Result<()>
     requires { IsFirstPage page.old }
     ensures length { length page.new ≡ length page.old }
@@ -367,12 +382,13 @@ pub fn has_other_order(rt: &HostRuntime, path: &str) -> bool {
     is_disordered_if_opened(open_regular(rt, path))
 }
 
-// Whether the file `opened` lists its tables in another order; false if it wasn't opened, or can't be read.
+// Whether the file `opened` lists its tables in an order that is neither canonical nor packed; false if it
+// wasn't opened, can't be read, or names no valid page size.
 fn is_disordered_if_opened<R: Read + Drop>(opened: io::Result<R>) -> bool
     ensures unread { IsErr opened → result ≡ false }
-    ensures said { IfOk opened (λ file. IfSome (R.remaining file) (λ bytes.
+    ensures reported { IfOk opened (λ file. IfSome (R.remaining file) (λ bytes.
         IsPageSize (size_in_file bytes) → result ≡ true → spec.has_other_order bytes ≡ true)) }
-    ensures sized { IfOk opened (λ file. IfSome (R.remaining file) (λ bytes.
+    ensures unsized { IfOk opened (λ file. IfSome (R.remaining file) (λ bytes.
         ¬ IsPageSize (size_in_file bytes) → result ≡ false)) }
 {
     match opened {
@@ -397,7 +413,8 @@ fn is_file_disordered<R: Read>(file: &mut R) -> io::Result<bool>
     }
 }
 
-// Whether the first page, of `size` bytes, lists them in another order; `header` was read from `file` before.
+// Whether the first page, of `size` bytes, lists its tables and indexes in an order that is neither
+// canonical nor packed. `header`, the first bytes of the page, was read from `file` before.
 fn is_first_page_disordered<R: Read>(
     file: &mut R,
     header: &[u8; HEADER],
@@ -412,7 +429,8 @@ fn is_first_page_disordered<R: Read>(
     Ok(is_out_of_order(page))
 }
 
-// Reads the first page, of `size` bytes, into `page`; `header` was read from `file` before.
+// Fills `page` with the first page, of `size` bytes. `header`, the first bytes of the page, was read from
+// `file` before.
 fn read_page<R: Read>(
     file: &mut R,
     header: &[u8; HEADER],
@@ -434,14 +452,15 @@ fn read_page<R: Read>(
 ///
 /// # Errors
 ///
-/// The error of the read or write that failed; `Unsupported` if the header names no valid page size.
+/// The error of the read or write that failed; `Unsupported` if the header names no valid page size. What was
+/// written until then stays.
 pub fn copy_mended<W: Write>(file: &mut File, output: &mut W) -> io::Result<()> {
     let len = file.metadata()?.len();
     copy_by_header(file, output, len)
 }
 
-// Copies a file of `len` bytes, repaired. Its header says how long its pages are, and whether they have
-// checksums.
+// Copies a file of `len` bytes to `output`, repaired as by `copy_mended`. Its header says how long its
+// pages are, and whether they have checksums.
 fn copy_by_header<R: Read, W: Write>(file: &mut R, output: &mut W, len: u64) -> io::Result<()>
     ensures mended { OnOk result (IfSome (R.remaining file.old) (λ bytes. length bytes ≡ len →
         Appends (W.contents output.old) (W.contents output.new)
@@ -460,12 +479,12 @@ fn copy_by_header<R: Read, W: Write>(file: &mut R, output: &mut W, len: u64) -> 
     }
 }
 
-/// Copies a file of `len` bytes, repaired: its first page is reordered as by `order_page`, and if
-/// `has_checksums`, the checksum of each page is set.
+/// Copies a file of `len` bytes to `output`, repaired: its first page is reordered as by `order_page`, and if
+/// `has_checksums`, the checksum of each page is set. `size` is the page size.
 ///
 /// # Errors
 ///
-/// The error of the read or write that failed.
+/// The error of the read or write that failed. What was written until then stays.
 pub fn copy_in_order<R: Read, W: Write>(
     file: &mut R,
     output: &mut W,
@@ -484,7 +503,8 @@ pub fn copy_in_order<R: Read, W: Write>(
     copy_with(&mut whole, output, size, len, has_checksums)
 }
 
-// Copies a file of `len` bytes; if `has_checksums`, the checksum of each page is set.
+// Copies a file of `len` bytes to `output`. If `has_checksums`, the checksum of each page, of `size` bytes,
+// is set.
 fn copy_with<R: Read, W: Write>(
     file: &mut R,
     output: &mut W,

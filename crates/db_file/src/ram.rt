@@ -12,7 +12,8 @@ use std::io;
 #[derive(Drop)]
 pub struct Ram {
     bytes: Vec<u8>,
-    // how many allocations failed or reads had the wrong digest, and how many the latter; both saturate
+    // `faults` counts failed allocations and reads with a wrong digest, `caught` only the latter. Both
+    // saturate.
     faults: u64,
     caught: u64,
 }
@@ -123,7 +124,7 @@ impl Disk for Ram {
     }
 }
 
-// The outcome of an allocation as an I/O result; a failure is counted in `faults`.
+// The outcome of an allocation as an I/O result: a failure is `OutOfMemory`, and is counted in `faults`.
 fn count_refusal(outcome: Result<(), AllocError>, faults: &mut u64) -> io::Result<()>
     ensures variant { is_ok result ≡ is_ok outcome }
     ensures kind { finds_no_room result ≡ false }
@@ -136,7 +137,7 @@ fn count_refusal(outcome: Result<(), AllocError>, faults: &mut u64) -> io::Resul
     Ok(())
 }
 
-// Cuts `file` to `len` bytes, or extends it with zeros.
+// Cuts `file` to `len` bytes, or extends it with zeros; fails if memory runs out.
 fn resize(file: &mut Vec<u8>, len: usize) -> Result<(), AllocError>
     ensures len { OnOk result (length file.new.items ≡ len) }
     ensures others { Cut len file.old.items file.new.items }
@@ -144,7 +145,8 @@ fn resize(file: &mut Vec<u8>, len: usize) -> Result<(), AllocError>
     file.resize(len, 0)
 }
 
-// Writes `bytes` from index `at` on, and extends the file if it ends before.
+// Writes `bytes` from index `at` on. If the file ends before, it is extended, and a gap is filled with zeros.
+// Fails if memory runs out, or no index is as large as the end.
 fn overwrite(file: &mut Vec<u8>, at: usize, bytes: &[u8]) -> Result<(), AllocError>
     ensures written { OnOk result (Holds file.new.items at bytes.now) }
     ensures others { Torn at (length bytes.now) file.old.items file.new.items }

@@ -7,14 +7,15 @@ ghost use Rattle.db_file.specs.Reads.{HaveBrokenOff};
 use crate::reads::{Reads, read_counted};
 use std::io::Read;
 
-// The most reads that one call makes.
+// The most reads that one call of `read_whole` makes.
 const MAX_READS: u32 = u32::MAX;
 
-/// Fills `room` from `input`; returns false if the input ends before. Interrupted reads are retried.
+/// Fills the buffer `room` from `input`; returns false if the input ends before. Interrupted reads are
+/// retried.
 ///
 /// # Errors
 ///
-/// How many reads there were, if the last one failed, or if 2^32 - 1 of them weren't enough.
+/// The number of reads so far, if the last one failed or 2^32 - 1 of them weren't enough.
 pub fn read_whole<R: Read>(input: &mut R, room: &mut [u8]) -> Result<bool, Reads>
     ensures whole { IfOk result (λ is_whole. is_whole ≡ true →
         Consumes (R.remaining input.old) (R.remaining input.new) room.new) }
@@ -26,7 +27,8 @@ pub fn read_whole<R: Read>(input: &mut R, room: &mut [u8]) -> Result<bool, Reads
     Ok(count == room.len())
 }
 
-// Reads into `room` until it is full or the input ends; returns how many bytes were read.
+// Reads into `room` until it is full or the input ends; returns how many bytes were read. It fails as
+// `read_whole` does.
 fn fill<R: Read>(input: &mut R, room: &mut [u8]) -> Result<usize, Reads>
     ensures within { IfOk result (λ count. count ≤ length room.new) }
     ensures taken { IfOk result (λ count.

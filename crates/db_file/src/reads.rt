@@ -16,7 +16,7 @@ pub enum LastRead {
     Failed,
 }
 
-/// How many reads there were, and the result of the last one. Only `read_counted` adds one.
+/// How many reads there were, and the result of the last one. Only `read_counted` adds a read.
 #[derive(Clone, Copy, Debug, PartialEq, Eq)]
 pub struct Reads {
     count: u32,
@@ -43,14 +43,15 @@ impl Reads {
     }
 }
 
-// Reads once into `room`, and adds the read to `reads` even if it fails.
+// Reads once into the buffer `room`, and adds the read to `reads` even if it fails. The read before must have
+// passed, and the count must have room for one more.
 pub(crate) fn read_counted<R: Read>(
     input: &mut R,
     room: &mut [u8],
     reads: &mut Reads,
 ) -> io::Result<usize>
     requires passed { reads.old.last ≡ LastRead.Passed }
-    requires room { reads.old.count < 2 ^ 32 - 1 }
+    requires below_max { reads.old.count < 2 ^ 32 - 1 }
     ensures bound { ReadsAtMost result room.new }
     ensures taken { ReadConsumes (R.remaining input.old) (R.remaining input.new) result room.new }
     ensures counted { reads.new.count ≡ reads.old.count + 1 }
@@ -62,7 +63,7 @@ pub(crate) fn read_counted<R: Read>(
     read
 }
 
-// Whether a read passed. One that was interrupted did, since it can be retried.
+// Whether the result `read` counts as passed. An interrupted read does, since it can be retried.
 fn last_of(read: &io::Result<usize>) -> LastRead
     ensures { IsLastRead read.now result }
 {

@@ -16,7 +16,8 @@ use sqlite_wal::{PageSize, checksum_of};
 use std::fs::{self, File, Metadata};
 use std::io::{self, ErrorKind, Read, Write};
 
-/// Whether the pages of the database at `path` have checksums; false if it can't be read.
+/// Whether the pages of the database at `path` have checksums; false if it can't be read, or names no valid
+/// page size.
 pub fn has_checksums(rt: &HostRuntime, path: &str) -> bool {
     checksummed_size(open_regular(rt, path)).is_some()
 }
@@ -29,8 +30,8 @@ pub fn count_bad_checksums(rt: &HostRuntime, path: &str) -> Option<u64> {
     count_bad_if_opened(File::open(rt, path), size, len)
 }
 
-// How many pages have a wrong checksum in the file `opened`, of `len` bytes. None if it wasn't opened, or
-// can't be read.
+// How many pages of `size` bytes have a wrong checksum in the file `opened`, which has `len` bytes. None if
+// it wasn't opened, or can't be read.
 fn count_bad_if_opened<R: Read + Drop>(
     opened: io::Result<R>,
     size: PageSize,
@@ -46,8 +47,8 @@ fn count_bad_if_opened<R: Read + Drop>(
     }
 }
 
-// The page size of the file `opened`, if its pages have checksums. None also if it wasn't opened, or can't be
-// read.
+// The page size of the file `opened`, if its pages have checksums. None also if it wasn't opened, can't be
+// read, or names no valid page size.
 fn checksummed_size<R: Read + Drop>(opened: io::Result<R>) -> Option<PageSize>
     ensures unread { IsErr opened → result ≡ None }
     ensures sized { IfSome result (λ size. IfOk opened (λ file. IfSome (R.remaining file) (λ bytes.
@@ -59,7 +60,7 @@ fn checksummed_size<R: Read + Drop>(opened: io::Result<R>) -> Option<PageSize>
     }
 }
 
-// Reads the header of a database; returns its page size, if its pages have checksums.
+// Reads the header of a database; returns its page size, if that is valid and the pages have checksums.
 fn read_checksummed_size<R: Read>(file: &mut R) -> io::Result<Option<PageSize>>
     ensures some { IfOk result (λ found. IfSome found (λ size. IfSome (R.remaining file.old) (λ bytes.
         (keeps_checksums bytes ≡ true) × (bytes_of size ≡ size_in_file bytes)))) }
@@ -71,7 +72,7 @@ fn read_checksummed_size<R: Read>(file: &mut R) -> io::Result<Option<PageSize>>
     Ok(checksummed_size_in(&header))
 }
 
-// The page size that the header of a database names, if its pages have checksums.
+// The page size that the header of a database names, if that is valid and the pages have checksums.
 fn checksummed_size_in(header: &[u8; HEADER]) -> Option<PageSize>
     ensures some { IfSome result (λ size.
         (keeps_checksums header.now ≡ true) × (bytes_of size ≡ size_in_file header.now)) }
@@ -106,11 +107,12 @@ fn refuse_irregular(found: &Metadata) -> io::Result<()>
     }
 }
 
-/// Copies the whole pages of a file of `len` bytes to `output`, each with its checksum set.
+/// Copies the whole pages of a file of `len` bytes to `output`, each with its checksum set. `size` is the
+/// page size; bytes after the last whole page aren't copied.
 ///
 /// # Errors
 ///
-/// The error of the read or write that failed.
+/// The error of the read or write that failed. What was written until then stays.
 pub fn copy_checksummed<R: Read, W: Write>(
     file: &mut R,
     output: &mut W,
@@ -124,7 +126,7 @@ pub fn copy_checksummed<R: Read, W: Write>(
     copy_pages(file, output, size, len / size.bytes() as u64)
 }
 
-// Copies the next `count` pages to `output`, each with its checksum set.
+// Copies the next `count` pages, of `size` bytes each, to `output`, each with its checksum set.
 fn copy_pages<R: Read, W: Write>(
     file: &mut R,
     output: &mut W,
@@ -158,7 +160,7 @@ fn copy_page<R: Read, W: Write>(file: &mut R, output: &mut W, page: &mut [u8]) -
     output.write_all(page)
 }
 
-/// How many of the whole pages of a file of `len` bytes have a wrong checksum.
+/// How many of the whole pages of a file of `len` bytes have a wrong checksum. `size` is the page size.
 ///
 /// # Errors
 ///
@@ -170,7 +172,7 @@ pub fn count_bad_pages<R: Read>(file: &mut R, size: PageSize, len: u64) -> io::R
     count_bad_in(file, size, len / size.bytes() as u64)
 }
 
-// How many of the next `count` pages have a wrong checksum.
+// How many of the next `count` pages, of `size` bytes each, have a wrong checksum.
 fn count_bad_in<R: Read>(file: &mut R, size: PageSize, count: u64) -> io::Result<u64>
     ensures { IfOk result (λ bad_count. IfSome (R.remaining file.old) (λ bytes.
         bad_count ≡ spec.unsummed_pages (bytes_of size) count bytes)) }
@@ -198,7 +200,7 @@ fn count_bad_page<R: Read>(file: &mut R, page: &mut [u8]) -> io::Result<u64>
     Ok(if has_own_checksum(page) { 0 } else { 1 })
 }
 
-// Whether a page ends with the checksum of the bytes before.
+// Whether a page ends with the checksum of the bytes before it.
 fn has_own_checksum(page: &[u8]) -> bool
     requires { 8 ≤ length page.now }
     ensures { result ≡ spec.has_sum page.now }
@@ -207,7 +209,7 @@ fn has_own_checksum(page: &[u8]) -> bool
     sum == &sum_of(bytes)[..]
 }
 
-/// Sets the checksum of a page: its last eight bytes.
+/// Sets the checksum of a page, its last eight bytes, to that of the bytes before.
 pub fn set_checksum(page: &mut [u8])
     requires { 8 ≤ length page.old }
     ensures { page.new ≡ spec.summed page.old }
@@ -232,7 +234,8 @@ fn sum_of(bytes: &[u8]) -> [u8; SUM]
 ///
 /// # Errors
 ///
-/// The error of the read or write that failed; `FileTooLarge` after 2^64 - 1 reads.
+/// The error of the read or write that failed; `FileTooLarge` after 2^64 - 1 reads. What was written until
+/// then stays.
 pub fn copy_bytes<R: Read, W: Write>(file: &mut R, output: &mut W) -> io::Result<()>
     ensures { OnOk result (IfSome (R.remaining file.old)
         (Appends (W.contents output.old) (W.contents output.new))) }

@@ -7,7 +7,7 @@ ghost use Rattle.sqlite_wal.specs.PageSize.{IsPageSize};
 use crate::numbers::{number_at, sum_at};
 use sqlite_wal::{PageSize, checksum_of};
 
-/// How many bytes a header has.
+/// How many bytes the header of a WAL has.
 pub const HEADER: usize = 32;
 
 // The version of the format that SQLite reads.
@@ -16,7 +16,8 @@ const VERSION: u32 = 3_007_000;
 // The last byte of the magic number if checksums are computed over big-endian words.
 const BIG: u8 = 0x83;
 
-/// The page size that the header of a WAL names, or `None` if `head` isn't a valid header.
+/// The page size that the header `head` of a WAL names; `None` if it isn't a valid header, or names a size
+/// that SQLite doesn't allow.
 pub fn page_size_in(head: &[u8; 32]) -> Option<usize>
     ensures some { IfSome result (λ page. IsHeader page head.now) }
     ensures size { IfSome result IsPageSize }
@@ -29,7 +30,8 @@ pub fn page_size_in(head: &[u8; 32]) -> Option<usize>
     Some(size.bytes())
 }
 
-// Whether `head` begins with a magic number of WALs and ends with the checksum of its first 24 bytes.
+// Whether `head` begins with a magic number of WALs and ends with the checksum of its first 24 bytes. The
+// last byte of the magic number says over which words checksums are computed, little- or big-endian.
 fn has_magic_and_checksum(head: &[u8; 32]) -> bool
     ensures { IsTrue result ↔ IsSigned head.now }
 {

@@ -1,4 +1,6 @@
--- DamageReported: what is reported of a damaged WAL, and which files are opened.
+-- DamageReported: what is reported of a damaged WAL, and which files are admitted. In these definitions
+-- `copied` says that the command only copies the file, and `writes` is what is written to the standard
+-- error.
 use Rattle.std.specs.Prelude.{◌≡◌, ◌⊎◌, ℕ, Bool, true, false, if◌then◌else◌, List, ◌++◌, codes, decimal}
 use Rattle.std.specs.Prelude.{Option, IfSome, Result, Ok, Err}
 use Rattle.std.specs.declared.io.Read as read
@@ -23,7 +25,7 @@ damage_line path frame commits =
     codes "uss_desk: " ++ (path ++ (codes ": its log is damaged at frame " ++ (decimal frame ++ (codes ": "
     ++ (decimal commits ++ codes " commits from there on can't be read\n")))))
 
--- a WAL is damaged, and that is reported, up to the write that broke off
+-- a WAL is damaged, and that is reported, whole or up to where the write broke off
 pub record IsLossReported {E : Type 0} (path log : List ℕ) (cut : Option (WriteError E))
     (writes : Course (Option (List ℕ))) : Type 0 where
   pub frame : ℕ
@@ -36,9 +38,9 @@ abbrev pub IsUndamaged : List ℕ → Course (Option (List ℕ)) → Type 0
 IsUndamaged log writes =
     ((frame commits : ℕ) → ¬ IsDamaged log frame commits) × (writes.after ≡ writes.before)
 
--- A file with this WAL is admitted if the WAL is not damaged, or if the file is copied: then the loss is
--- reported. It is refused if the WAL is damaged and the file is not copied. If nothing is known of the WAL,
--- nothing is reported.
+-- The result of the check of a WAL. If the WAL is not damaged, its file is admitted, and nothing is
+-- reported. If it is damaged, the file is admitted only if it is copied, and the damage is reported. If the
+-- check failed, nothing is reported.
 abbrev pub IsLookedAt :
     {E : Type 0} → Bool → List ℕ → List ℕ → Result (LogCheck E) LogCheckError → Course (Option (List ℕ))
     → Type 0
@@ -47,38 +49,39 @@ IsLookedAt copied path log (Ok look) writes =
     ⊎ ((look.is_admitted ≡ copied) × (look.is_damaged ≡ true) × IsLossReported path log look.cut writes)
 IsLookedAt copied path log (Err it) writes = writes.after ≡ writes.before
 
--- why nothing is known of a WAL: memory ran out for the line that reports its damage, or it can't be read
+-- why the check of a WAL failed: memory ran out for the line that reports its damage, or it can't be read
 abbrev pub HasLogCheckCause : Option (List ℕ) → LogCheckError → Type 0
 HasLogCheckCause log unlooked.OutOfMemory =
     IfSome log (λ bytes. (frame commits : ℕ) × IsDamaged bytes frame commits)
 HasLogCheckCause log (unlooked.Unread fault) = IsUnjudged log fault
 
--- whether a command is begun at a file, by what came of the look at its WAL, and whether that is damaged
+-- by the result of the check of a WAL: whether the WAL of an admitted file is damaged; the error code if
+-- the file is refused
 abbrev pub admission_of : {E : Type 0} → Result (LogCheck E) LogCheckError → Result Bool ErrorCode
 admission_of (Ok look) = if look.is_admitted then Ok look.is_damaged else Err failure.DamagedLog
 admission_of (Err unlooked.OutOfMemory) = Err failure.Memory
 admission_of (Err (unlooked.Unread fault)) = Err failure.Store
 
--- what is reported of a WAL that is there without its file
+-- the text about a WAL that is there without its file
 abbrev pub alone_text : List ℕ
 alone_text = codes "its log is there without it: was it moved or removed while a desk ran?"
 
--- a look at a WAL, of which this came
+-- a WAL with the bytes `log` was checked, with this result
 pub record HasLooked (E : Type 0) (copied : Bool) (path log : List ℕ) (result : Result Bool ErrorCode)
     (writes : Course (Option (List ℕ))) : Type 0 where
   pub look : Result (LogCheck E) LogCheckError
   pub looked : IsLookedAt copied path log look writes
   pub is : result ≡ admission_of look
 
--- ---- of a log of which nothing is known
+-- ---- what is reported, whatever bytes the WAL has
 
--- damage is reported, wherever in the WAL it is
+-- damage is reported, at some frame and of some number of commits
 pub record ReportsLoss (path : List ℕ) (writes : Course (Option (List ℕ))) : Type 0 where
   pub frame : ℕ
   pub commits : ℕ
   pub reported : IsWrittenOnce (damage_line path frame commits) writes
 
--- what is reported by what came of a look at a WAL: damage, of a WAL that is called damaged; else nothing
+-- what is reported, by the result of the check of a WAL: damage if the result says so; else nothing
 abbrev pub IsLogCheckReported :
     {E : Type 0} → Bool → List ℕ → Result (LogCheck E) LogCheckError → Course (Option (List ℕ)) → Type 0
 IsLogCheckReported copied path (Ok look) writes =
@@ -86,7 +89,8 @@ IsLogCheckReported copied path (Ok look) writes =
     ⊎ ((look.is_admitted ≡ copied) × (look.is_damaged ≡ true) × ReportsLoss path writes)
 IsLogCheckReported copied path (Err it) writes = writes.after ≡ writes.before
 
--- what is reported by what came of it, and of a WAL that is there without its file
+-- what is reported, by the result of `check_before`: damage if the WAL is damaged; with `Store`, that a WAL
+-- is there without its file, or nothing; else nothing
 abbrev pub IsBegun : Bool → List ℕ → Result Bool ErrorCode → Course (Option (List ℕ)) → Type 0
 IsBegun copied path (Ok false) writes = writes.after ≡ writes.before
 IsBegun copied path (Ok true) writes = (copied ≡ true) × ReportsLoss path writes
@@ -95,8 +99,8 @@ IsBegun copied path (Err failure.Memory) writes = writes.after ≡ writes.before
 IsBegun copied path (Err failure.Store) writes = IsWrittenIfRoom (line_of path alone_text) writes
 IsBegun copied path (Err it) writes = ⊥
 
--- what comes of the WAL that was found: a file is refused whose WAL is there without it, and that is
--- reported; else a WAL is looked at, if there is one
+-- the result for the WAL that was found: a WAL without its file is refused and reported; a WAL that may be
+-- damaged is checked; else nothing is done
 abbrev pub IsJudged :
     {R E : Type 0} → read.Ghosts R → write.Ghosts E → Bool → List ℕ → FoundLog R → Result Bool ErrorCode
     → E → E → Type 0

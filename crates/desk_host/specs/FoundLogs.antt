@@ -1,4 +1,4 @@
--- FoundLogs: what the answers of the operating system say of a file and its WAL.
+-- FoundLogs: which WAL is found for a file, by the answers of the operating system, `it`.
 use Rattle.std.specs.Prelude.{◌≡◌, ℕ, ◌==◌, Bool, true, false, nat_le, not, if◌then◌else◌, List, Option, None, Some}
 use Rattle.std.specs.Prelude.{Result, Ok, Err}
 use Rattle.std.specs.Option.{IsSomeAnd}
@@ -17,12 +17,12 @@ use Rattle.desk_host.specs.declared.logs.FoundLog.TheVariants as log
 use Rattle.host_files.specs.declared.state.Denial.{Denial}
 use Rattle.host_files.specs.declared.state.Denial.TheVariants as denial
 
--- nothing is at a path, by what it leads to; another error leaves that open
+-- it is certain that a path leads to nothing; another error leaves that open
 abbrev pub is_gone : Result Found ErrorKind → Bool
 is_gone (Err kind.NotFound) = true
 is_gone _ = false
 
--- how many bytes count of what is at a path: those of a regular file
+-- the size in bytes of the regular file to which a path leads; 0 if it leads to none
 abbrev pub size_of : Result Found ErrorKind → ℕ
 size_of (Ok found) = if found.is_file then found.len else 0
 size_of (Err error) = 0
@@ -30,44 +30,45 @@ size_of (Err error) = 0
 abbrev pub size_at : Answers → List ℕ → ℕ
 size_at it path = size_of (it.found path)
 
--- another program has a file open
+-- another program has a file open: by why it can't be opened
 abbrev pub is_held : Option Denial → Bool
 is_held (Some denial.Busy) = true
 is_held _ = false
 
--- nothing can be reached, or memory ran out, by the kind of the error
+-- the result if something can't be reached, by the kind of the error: None, or `Memory` if memory ran out
 abbrev pub unreached_by : {T : Type 0} → ErrorKind → Result (Option T) ErrorCode
 unreached_by kind.OutOfMemory = Err failure.Memory
 unreached_by _ = Ok None
 
--- what was found, or nothing
+-- the value that was found; None if it can't be reached; `Memory` if memory ran out
 abbrev pub if_there : {T : Type 0} → Result T ErrorKind → Result (Option T) ErrorCode
 if_there (Ok it) = Ok (Some it)
 if_there (Err kind) = unreached_by kind
 
--- a WAL of so many bytes may have a commit, or be damaged
+-- a WAL of so many bytes is long enough to have a commit, or to be damaged
 abbrev pub may_have_commit : ℕ → Bool
 may_have_commit size = nat_le least_with_commit size
 
 abbrev pub may_be_damaged : ℕ → Bool
 may_be_damaged size = nat_le least_damaged size
 
--- a WAL with a commit may be beside a file
+-- the WAL beside a file is long enough to have a commit
 abbrev pub has_commit : Answers → List ℕ → Bool
 has_commit it path = may_have_commit (size_at it (log_of path))
 
--- the WAL of a file has to be judged, by where the file and the WAL lie
+-- the WAL of a file has to be checked: by the file's path, the path with all links resolved, and the WAL's
+-- path
 abbrev pub needs_check : Answers → List ℕ → List ℕ → List ℕ → Bool
 needs_check it path real log = if size_at it real == 0 then false
     else (if may_be_damaged (size_at it log) then not (is_held (it.unheld path)) else false)
 
--- a path whose file can be opened, by why it can't be
+-- the path, if its file can be opened for reading: by the error of opening it
 abbrev pub opened_by : List ℕ → Option ErrorKind → Option (List ℕ)
 opened_by path None = Some path
 opened_by path (Some error) = None
 
--- the path of the WAL of a file that has to be judged, if it has one that can be opened: beside the file to
--- which a link leads
+-- the path of the WAL of a file, if the WAL has to be checked and can be opened: it is beside the file to
+-- which links lead
 abbrev pub if_opened : Answers → List ℕ → Bool → Option (List ℕ)
 if_opened it log true = opened_by log (it.unread log)
 if_opened it log false = None
@@ -79,16 +80,16 @@ judged_by it path (Err error) = None
 abbrev pub judged_log : Answers → List ℕ → Option (List ℕ)
 judged_log it path = judged_by it path (it.real path)
 
--- that WAL is open; or there is none
+-- the result of looking for that WAL: it is open, or there is none
 abbrev pub IsLogBeside : {R : Type 0} → read.Ghosts R → Answers → List ℕ → Option R → Type 0
 IsLogBeside r it path None = judged_log it path ≡ None
 IsLogBeside r it path (Some file) = IsSomeAnd (judged_log it path) (λ log. r.remaining file ≡ it.bytes log)
 
--- the WAL of a file is there without it
+-- a WAL that may have a commit is there without its file
 abbrev pub is_alone : Answers → List ℕ → Bool
 is_alone it path = if is_gone (it.found path) then has_commit it path else false
 
--- what a look for the WAL of a file finds
+-- which WAL is found for a file
 abbrev pub IsLogAt : {R : Type 0} → read.Ghosts R → Answers → List ℕ → FoundLog R → Type 0
 IsLogAt r it path log.Alone = is_alone it path ≡ true
 IsLogAt r it path log.Nothing = (is_alone it path ≡ false) × IsLogBeside r it path None

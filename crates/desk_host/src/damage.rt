@@ -61,14 +61,16 @@ impl From<AllocError> for LogCheckError {
     }
 }
 
-/// Checks the WAL of a database. The file is refused if its WAL is damaged, or exists without it, and why is
-/// reported. A command that copies the file (`is_copied`) goes on with what can be read of a damaged WAL.
-/// Returns whether the WAL is damaged. If another program has the file open, nothing is checked: opening it
-/// reports that.
+/// Checks the WAL of a database before its file is opened, and returns whether the WAL is damaged. The file
+/// is refused if its WAL is damaged, or exists without the file; both are reported on `errors`. A command
+/// that only copies the file (`is_copied`) goes on with what can be read of a damaged WAL. If another
+/// program has the file open, nothing is checked: opening it reports that. Nor is anything checked if the
+/// database is in memory.
 ///
 /// # Errors
 ///
-/// `DamagedLog`; `Memory` if memory runs out; `Store` if the WAL can't be read, or exists without its file.
+/// `DamagedLog` if the WAL is damaged and the file isn't copied; `Memory` if memory runs out; `Store` if
+/// the WAL can't be read, which isn't reported, or exists without its file.
 pub fn check_before<E: Write>(
     rt: &HostRuntime,
     database: &Database,
@@ -86,7 +88,7 @@ pub fn check_before<E: Write>(
     }
 }
 
-// What `check_before` does for the file at a path, over any `HostFiles`.
+// What `check_before` does for the file at a path, for any `HostFiles`.
 fn check_beside<F: HostFiles, E: Write>(
     alloc: Global,
     files: &mut F,
@@ -101,8 +103,9 @@ fn check_beside<F: HostFiles, E: Write>(
     check_found(alloc, path, is_copied, found, errors)
 }
 
-// Refuses a file if the WAL that was found exists without it or is damaged, and reports why; else returns
-// whether the WAL is damaged, which only a command that copies the file accepts.
+// Checks the WAL `found` of the file at a path, as `check_before` does: refuses the file, and reports why,
+// if the WAL exists without it, or is damaged and the file isn't copied (`is_copied`); else returns whether
+// the WAL is damaged.
 #[tactic(auto, using(crate::proofs::LossLemmas::begins))]
 fn check_found<R: Read + Drop, E: Write>(
     alloc: Global,
@@ -126,7 +129,8 @@ fn check_found<R: Read + Drop, E: Write>(
     }
 }
 
-// Whether the WAL of an admitted file is damaged; or the error code, if the file is refused.
+// Whether the WAL of an admitted file is damaged, by the result `look` of its check; the error code if the
+// file is refused.
 fn admission_of<E>(look: Result<LogCheck<E>, LogCheckError>) -> Result<bool, ErrorCode>
     ensures { result ≡ spec.admission_of look }
 {
@@ -138,12 +142,13 @@ fn admission_of<E>(look: Result<LogCheck<E>, LogCheckError>) -> Result<bool, Err
     }
 }
 
-/// Checks a WAL, and reports its damage, if there is some. The file is still admitted if it is only copied
-/// (`is_copied`).
+/// Checks the WAL `log` of the file at a path. If it is damaged, that is reported on `errors`, and the file
+/// is admitted only if it is copied (`is_copied`). A failed write doesn't change that: the result says
+/// where it broke off.
 ///
 /// # Errors
 ///
-/// The WAL can't be read, or memory ran out for the report.
+/// The WAL can't be read, or memory ran out for the report. Nothing is then reported.
 #[tactic(auto, using(crate::proofs::LossLemmas::loss_reported))]
 pub fn check_log<R: Read, E: Write>(
     alloc: Global,
@@ -176,7 +181,8 @@ pub fn check_log<R: Read, E: Write>(
     }
 }
 
-// Reports that a WAL is damaged, and returns where the write broke off, if it did.
+// Reports that the WAL of the file at a path is damaged at `frame`, and `commits` commits are lost. Returns
+// where the write broke off, or `None`. Fails if memory runs out for the line.
 fn report_damage<E: Write>(
     alloc: Global,
     path: &str,
@@ -192,7 +198,8 @@ fn report_damage<E: Write>(
     Ok(report_line(&line, errors))
 }
 
-// The line that reports damage: from which frame on, and how many commits are lost.
+// The line that reports damage of the WAL of the file at `path`: from which frame on, counted from 0, and
+// how many commits are lost.
 #[tactic(auto, unfolding(crate::specs::DamageReported::damage_line))]
 fn damage_line(alloc: Global, path: &str, frame: u64, commits: u64) -> Result<String, AllocError>
     ensures { IfOk result (λ line. string_bytes line ≡ spec.damage_line path.now frame commits) }
@@ -203,7 +210,7 @@ fn damage_line(alloc: Global, path: &str, frame: u64, commits: u64) -> Result<St
     )
 }
 
-/// Whether a WAL of `size` bytes is long enough to have a commit.
+/// Whether a WAL of `size` bytes is long enough to have a commit. If not, it has none.
 pub(crate) fn may_have_commit(size: u64) -> bool
     ensures exact { result ≡ logs.may_have_commit size }
     ensures none { result ≡ false → (log : List ℕ) → length log ≡ size → ¬ HasCommit log }
@@ -212,7 +219,7 @@ pub(crate) fn may_have_commit(size: u64) -> bool
     size >= LEAST_WITH_A_COMMIT
 }
 
-/// Whether a WAL of `size` bytes is long enough to be damaged.
+/// Whether a WAL of `size` bytes is long enough to be damaged. If not, it isn't.
 pub(crate) fn may_be_damaged(size: u64) -> bool
     ensures exact { result ≡ logs.may_be_damaged size }
     ensures none { result ≡ false → (log : List ℕ) → length log ≡ size

@@ -79,7 +79,7 @@ impl From<io::Error> for JournalError {
     }
 }
 
-/// A journal in a folder.
+/// A journal in the folder of journals.
 #[derive(Drop)]
 pub struct JournalFile {
     /// The number in its name.
@@ -90,18 +90,19 @@ pub struct JournalFile {
     pub len: u64,
 }
 
-// The journal with the greatest number among the names read so far.
+// The journal with the greatest number among the names of the folder that were read so far.
 #[derive(Drop)]
 struct Greatest {
     number: u64,
     path: String,
 }
 
-/// The journal with the greatest number in its name, if the folder has one.
+/// The last journal of a folder: the one with the greatest number in its name; `None` if the folder has none.
+/// Files with other names are passed over.
 ///
 /// # Errors
 ///
-/// The folder or the journal can't be read, or memory runs out.
+/// The folder can't be read, the size of the journal can't be found out, or memory runs out.
 #[tactic(auto, using(crate::proofs::FaultLemmas::memory_unkept))]
 pub fn last_record(rt: &HostRuntime, folder: &str) -> Result<Option<JournalFile>, JournalError>
     ensures found { IfOk result (λ found. IfSome found (IsFoundIn folder.now)) }
@@ -119,7 +120,8 @@ pub fn last_record(rt: &HostRuntime, folder: &str) -> Result<Option<JournalFile>
     Ok(Some(JournalFile { number, path, len }))
 }
 
-// The journal with the greatest number: `greatest`, or the one called `name`, if that has a greater one.
+// The journal with the greatest number: `greatest`, or the file `name` in `folder`, if it is a journal with a
+// greater number.
 fn greater_journal(
     alloc: Global,
     folder: &str,
@@ -127,7 +129,7 @@ fn greater_journal(
     name: &str,
 ) -> Result<Option<Greatest>, AllocError>
     ensures next { IfOk result (IsNextAt folder.now name.now greatest) }
-    ensures there { IfSome greatest (IsGreatestIn folder.now)
+    ensures in_folder { IfSome greatest (IsGreatestIn folder.now)
         → IfOk result (λ now. IfSome now (IsGreatestIn folder.now)) }
 {
     let Some(number) = record_number(name) else {
@@ -140,7 +142,7 @@ fn greater_journal(
     Ok(Some(Greatest { number, path }))
 }
 
-// Whether a number is greater than the greatest one so far.
+// Whether a number is greater than that of the journal `greatest`; true if there is none yet.
 fn is_above(greatest: &Option<Greatest>, number: u64) -> bool
     ensures { result ≡ spec.is_above greatest.now number }
 {
@@ -150,7 +152,8 @@ fn is_above(greatest: &Option<Greatest>, number: u64) -> bool
     }
 }
 
-// The number in the name of a journal, `NNNNNNNNNN-SECOND.record`. `None` for any other name.
+// The number in the name of a journal, `NUMBER-SECOND.record`, where NUMBER has ten digits or more. `None`
+// for any other name, and for a number of more than 64 bits.
 fn record_number(name: &str) -> Option<u64>
     ensures { IsNumberIn name.now result }
 {
@@ -160,7 +163,7 @@ fn record_number(name: &str) -> Option<u64>
     }
 }
 
-// The name of a journal without its extension. `None` for any other name.
+// The name of a journal without its extension; `None` if the name has another extension.
 fn stem_of(name: &str) -> Option<&str>
     ensures { MatchOption result ((stem : List ℕ) → name.now ≢ stem ++ spec.ending)
         (λ stem. name.now ≡ stem.now ++ spec.ending) }
@@ -168,7 +171,7 @@ fn stem_of(name: &str) -> Option<&str>
     name.strip_suffix(ENDING)
 }
 
-// The number of a journal, by its name without the extension.
+// The number of a journal, by its name without the extension, `NUMBER-SECOND`. `None` for any other name.
 fn number_in_stem(stem: &str) -> Option<u64>
     ensures { result ≡ spec.number_in_stem stem.now }
 {
@@ -176,7 +179,8 @@ fn number_in_stem(stem: &str) -> Option<u64>
     checked_number(number, second)
 }
 
-// The number of a journal, if `number` has ten digits or more, and `second` is made of digits.
+// The number of a journal, if `number` has ten digits or more, and `second` is made of digits; else `None`,
+// also if the number doesn't fit 64 bits.
 fn checked_number(number: &str, second: &str) -> Option<u64>
     ensures { result ≡ spec.checked_number number.now second.now }
 {
@@ -192,7 +196,8 @@ fn checked_number(number: &str, second: &str) -> Option<u64>
     number_of(number)
 }
 
-// The number that decimal digits write, if it fits 64 bits.
+// The number that the decimal digits `digits` write, if it fits 64 bits. The contract is silent about other
+// text.
 #[tactic(auto, using(crate::proofs::JournalLemmas::number_read, crate::proofs::JournalLemmas::number_unread))]
 fn number_of(digits: &str) -> Option<u64>
     ensures { spec.are_digits digits.now ≡ true → result ≡ spec.number_of digits.now }
@@ -229,18 +234,19 @@ fn path_in(alloc: Global, folder: &str, name: &str) -> Result<String, AllocError
     format!(in alloc; "{folder}/{name}")
 }
 
-/// What the end of a journal says, and what follows its last whole entry.
+/// Reads a journal: what its entries say up to the end (`Tail`), and what follows the last whole entry
+/// (`TailEnd`).
 ///
 /// # Errors
 ///
-/// The journal can't be read or is none, or memory runs out.
-pub fn tail_of(rt: &HostRuntime, record: &JournalFile) -> Result<(Tail, TailEnd), JournalError>
+/// The journal can't be read, its last record is none of a desk, or memory runs out.
+pub fn tail_of(rt: &HostRuntime, journal: &JournalFile) -> Result<(Tail, TailEnd), JournalError>
     ensures { IfErr result IsTailUnread }
 {
-    tail_in(rt.alloc(), File::open(rt, &record.path)?)
+    tail_in(rt.alloc(), File::open(rt, &journal.path)?)
 }
 
-// What `tail_of` returns, of a journal that is open.
+// What `tail_of` returns, for the open journal `file`.
 fn tail_in<R: Read + Drop>(alloc: Global, file: R) -> Result<(Tail, TailEnd), JournalError>
     ensures ok { IfOk result (λ read. IsTail (R.remaining file) read.1 (tail_shown read.0)) }
     ensures cause { IfErr result (IsTailFault (R.remaining file)) }
@@ -250,30 +256,30 @@ fn tail_in<R: Read + Drop>(alloc: Global, file: R) -> Result<(Tail, TailEnd), Jo
 }
 
 /// Cuts a journal off at `size` bytes, the end of its last whole entry. What followed is moved to a file
-/// `NAME.rest` beside it.
+/// `NAME.rest` beside it, which replaces an older one. The journal is cut off only once that file is on the
+/// disk.
 ///
 /// # Errors
 ///
-/// A file can't be read or written, or memory runs out. The journal is cut off only once the other file is on
-/// the disk.
-pub fn move_rest(rt: &HostRuntime, record: &JournalFile, size: u64) -> Result<(), JournalError>
+/// A file can't be read or written, or memory runs out.
+pub fn move_rest(rt: &HostRuntime, journal: &JournalFile, size: u64) -> Result<(), JournalError>
     ensures { IfErr result IsUnkept }
 {
     let mut file = OpenOptions::new()
         .read(true)
         .write(true)
-        .open(rt, &record.path)?;
+        .open(rt, &journal.path)?;
     let mut rest = Vec::new(rt.alloc());
     file.seek(SeekFrom::Start(size))?;
     file.read_to_end(&mut rest)?;
-    write_rest(rt, &record.path, &rest)?;
-    sync_folder(rt, &record.path)?;
+    write_rest(rt, &journal.path, &rest)?;
+    sync_folder(rt, &journal.path)?;
     file.set_len(size)?;
     file.sync_all()?;
     Ok(())
 }
 
-// Writes `rest` to the file beside the journal at `path`, and syncs it.
+// Writes `rest` to the file `NAME.rest` beside the journal at `path`, and syncs it. An older one is replaced.
 #[tactic(auto, using(crate::proofs::FaultLemmas::memory_unkept))]
 fn write_rest(rt: &HostRuntime, path: &str, rest: &[u8]) -> Result<(), JournalError>
     ensures { IfErr result IsUnkept }
@@ -290,7 +296,8 @@ fn write_rest(rt: &HostRuntime, path: &str, rest: &[u8]) -> Result<(), JournalEr
     Ok(())
 }
 
-/// Makes the file of a new journal under a temporary name. Only its owner can read and write it.
+/// Makes the file of the new journal with this number, under a temporary name in `folder`, and opens it for
+/// writing. Only its owner can read and write it. A file that was left under this name is removed first.
 ///
 /// # Errors
 ///
@@ -310,12 +317,12 @@ pub fn make_part(rt: &HostRuntime, folder: &str, number: u64) -> Result<File, Jo
     Ok(file)
 }
 
-/// Renames the file of a new journal to its final name, which has the Unix second at which it begins, and
-/// syncs the folder.
+/// Renames the file of the new journal with this number from its temporary to its final name, and syncs the
+/// folder. The final name has the Unix second `second` at which the journal begins.
 ///
 /// # Errors
 ///
-/// That failed, or memory runs out.
+/// The file can't be renamed, the folder can't be synced, or memory runs out.
 #[tactic(auto, using(crate::proofs::FaultLemmas::memory_unkept))]
 pub fn name_part(
     rt: &HostRuntime,
@@ -339,7 +346,8 @@ fn name_of(alloc: Global, folder: &str, number: u64, second: u64) -> Result<Stri
     format!(in alloc; "{folder}/{number:010}-{second}{ENDING}")
 }
 
-// The temporary path of a new journal.
+// The temporary path of the new journal with this number. It lacks the extension, so it is taken for no
+// journal.
 #[tactic(auto, unfolding(crate::specs::Journals::part_of))]
 fn part_of(alloc: Global, folder: &str, number: u64) -> Result<String, AllocError>
     ensures { IfOk result (λ path. string_bytes path ≡ spec.part_of folder.now number) }

@@ -19,14 +19,15 @@ use std::io::ErrorKind;
 pub enum FoundLog<R> {
     /// A WAL that may have a commit, while the database file doesn't exist.
     Alone,
-    /// No WAL that has to be checked: there is none, it is short or can't be reached, or another program has
-    /// the file open. Opening the file reports the latter two.
+    /// No WAL that has to be checked: there is none, the file is empty, the WAL is short or can't be reached,
+    /// or another program has the file open. Opening the file reports the latter two.
     Nothing,
     /// A WAL that may be damaged.
     Log(R),
 }
 
-/// Finds the WAL of the file at a path.
+/// Finds the WAL of the file at a path, and opens it if it has to be checked. The file may be opened once,
+/// as SQLite does, to learn whether another program has it open.
 ///
 /// # Errors
 ///
@@ -49,7 +50,8 @@ pub fn find_log<F: HostFiles>(
     }
 }
 
-/// Whether a file may have a WAL with a commit, by the size of the WAL.
+/// Whether the file at a path may have a WAL with a commit: one that is long enough. Links in the path aren't
+/// followed to find the WAL.
 ///
 /// # Errors
 ///
@@ -61,7 +63,8 @@ pub fn has_commit<F: HostFiles>(alloc: Global, files: &F, path: &str) -> Result<
     Ok(may_have_commit(size_at(files, &name)))
 }
 
-// Opens the WAL of the file at a path, if it has to be checked.
+// Opens the WAL of the file at a path for reading. `None` if it needn't be checked, or can't be reached. If
+// the path is a link, the WAL is beside the file to which it leads.
 fn log_beside<F: HostFiles>(
     alloc: Global,
     files: &mut F,
@@ -81,8 +84,9 @@ fn log_beside<F: HostFiles>(
     if_there(files.open(&name))
 }
 
-// Whether the WAL `log` of a file has to be checked: it is long enough to be damaged, the file isn't empty,
-// and no other program has it open. `real` is `path` with all links resolved.
+// Whether the WAL `log` of the file at `path` has to be checked: it is long enough to be damaged, the file
+// isn't empty, and no other program has the file open. `real` is `path` with all links resolved. The file
+// is opened last, since opening it makes a WAL.
 fn needs_check<F: HostFiles>(files: &mut F, path: &str, real: &str, log: &str) -> bool
     ensures answer { IfSome (F.answers files.old) (λ it.
         result ≡ spec.needs_check it path.now real.now log.now) }
@@ -98,14 +102,14 @@ fn needs_check<F: HostFiles>(files: &mut F, path: &str, real: &str, log: &str) -
     !is_held(files.opening_denial(path))
 }
 
-// The size in bytes of the regular file at a path; 0 if there is none.
+// The size in bytes of the regular file to which a path leads; 0 if it leads to none.
 fn size_at<F: HostFiles>(files: &F, path: &str) -> u64
     ensures { IfSome (F.answers files.now) (λ it. result ≡ spec.size_at it path.now) }
 {
     size_of(files.find(path))
 }
 
-// Whether another program has a file open, by why it can't be opened.
+// Whether another program has a file open, by the reason `denial` why it can't be opened; false if it can.
 fn is_held(denial: Option<Denial>) -> bool
     ensures { result ≡ spec.is_held denial }
 {
@@ -115,7 +119,7 @@ fn is_held(denial: Option<Denial>) -> bool
     }
 }
 
-// Whether it is certain that nothing exists at a path.
+// Whether it is certain that a path leads to nothing, by what was found there; false after any other error.
 fn is_gone(found: Result<Found, ErrorKind>) -> bool
     ensures { result ≡ spec.is_gone found }
 {
@@ -125,7 +129,7 @@ fn is_gone(found: Result<Found, ErrorKind>) -> bool
     }
 }
 
-// The size in bytes of a regular file; 0 for anything else.
+// The size in bytes of what was found at a path, if it is a regular file; 0 for anything else.
 fn size_of(found: Result<Found, ErrorKind>) -> u64
     ensures { result ≡ spec.size_of found }
 {
@@ -135,7 +139,8 @@ fn size_of(found: Result<Found, ErrorKind>) -> u64
     }
 }
 
-// What was found; `None` if it can't be reached, which opening the file reports. `Memory` if memory ran out.
+// The value `found`; `None` if it can't be reached, which opening the database file reports later. Fails with
+// `Memory` if memory ran out.
 fn if_there<T: Drop>(found: Result<T, ErrorKind>) -> Result<Option<T>, ErrorCode>
     ensures { result ≡ spec.if_there found }
 {

@@ -27,7 +27,7 @@ use std::fs::{self, File, Metadata};
 use std::io::{self, ErrorKind, Read, Write};
 use std::time::SystemTime;
 
-/// The most bytes of the file: 1 MiB.
+/// The most bytes that the file of enrolments may have: 1 MiB.
 const MAX_BYTES: u64 = 1_048_576;
 
 // The cause for a longer file.
@@ -90,14 +90,14 @@ fn unread_by(kind: ErrorKind) -> FileReadError
 
 /// Text files that an administrator changes while a desk serves.
 pub trait TextFiles {
-    /// What was read of them, in order, if known.
+    /// What was asked of them, with the answers, in order, if known.
     ghost asked: { Self → Option (List Asking) } = { λ _. None };
 
     /// The stamp of the file at a path.
     ///
     /// # Errors
     ///
-    /// There is no such file, it can't be read, or memory ran out.
+    /// There is no such file, it isn't a regular file, it can't be reached, or memory ran out.
     fn stamp(&mut self, path: &str) -> Result<Stamp, FileReadError>
         ensures { Grows (asked self.old) (asked self.new) (Stamped path.now (ok_of result) ∷ []) };
 
@@ -135,12 +135,13 @@ pub struct EnrolmentFile<'r, F: Drop> {
     reported: Option<&'static str>,
 }
 
-/// The file of enrolments at a path, if there is one. It is read once, so that its malformed lines are
-/// reported before the desk serves.
+/// The file of enrolments at `path`; one without a path if that is `None`. The file is read once, so that
+/// its malformed lines are reported before the desk serves. Its operators aren't returned yet: the first
+/// look does that.
 ///
 /// # Errors
 ///
-/// `Read` if the file can't be read, which is reported; `Memory`.
+/// `Read` if the file can't be read, which is reported; `Memory` if memory ran out.
 pub fn operators_of<'r, F: TextFiles + Drop>(
     rt: &'r HostRuntime,
     files: F,
@@ -171,7 +172,8 @@ pub fn operators_of<'r, F: TextFiles + Drop>(
 }
 
 impl<F: TextFiles + Drop> EnrolmentFile<'_, F> {
-    // The operators in the file. Malformed lines are reported once for each version of the file.
+    // The enrolments in the file at `path`. Malformed lines are reported once for each version of the file,
+    // and passed over.
     fn read_file(&mut self, alloc: Global, path: &str) -> Result<Vec<Enrolment>, FileReadError>
         ensures small { IfOk result (λ enrolments. AreEnrolments enrolments.items) }
         ensures read { IfOk result (λ enrolments. AreEnrolmentsRead path.now
@@ -191,7 +193,8 @@ impl<F: TextFiles + Drop> EnrolmentFile<'_, F> {
         Ok(parse_enrolment_lines(alloc, &lines)?)
     }
 
-    // Reports why the file can't be read, unless that cause was the last one reported.
+    // Reports why the file at `path` can't be read, unless `cause` was the last cause reported. A failed
+    // write is ignored.
     fn report_once(&mut self, path: &str, cause: &'static str)
         ensures asked { F.asked self.new.files ≡ F.asked self.old.files }
         ensures seen { self.new.seen ≡ self.old.seen }
@@ -204,6 +207,9 @@ impl<F: TextFiles + Drop> EnrolmentFile<'_, F> {
 }
 
 impl<F: TextFiles + Drop> EnrolmentSource for EnrolmentFile<'_, F> {
+    // The enrolments in the file, if it was changed since they were last returned; else none. There are none
+    // either without a file. A file that can't be read is reported, once for each cause, and is read again at
+    // the next look. Fails if memory ran out.
     #[tactic(auto, using(crate::proofs::OperatorLemmas::no_news))]
     fn look(&mut self, alloc: Global) -> Result<Vec<Enrolment>, ErrorCode>
         ensures small { IfOk result (λ newly_enrolled. AreEnrolments newly_enrolled.items) }
@@ -243,7 +249,7 @@ fn stamp_of(rt: &HostRuntime, path: &str) -> Result<Stamp, FileReadError>
     stamp_by(fs::metadata(rt, path))
 }
 
-// The stamp of a file, by its metadata.
+// The stamp of a file, by its metadata. An error if they can't be had, or it isn't a regular file.
 fn stamp_by(found: io::Result<Metadata>) -> Result<Stamp, FileReadError>
     ensures stamp { MatchResult found (λ said. IsStampOf said result)
         (λ error. IfErr result (λ fault. unread_text fault ≡ cause.unread_by (error_kind error))) }
@@ -270,7 +276,8 @@ fn read_text<F: HostFiles>(files: &F, alloc: Global, path: &str) -> Result<Strin
     }
 }
 
-// The text of a file that is open.
+// The text of the open file `file`. At most one byte more than `MAX_BYTES` is read, to learn whether it is
+// longer.
 fn text_in<R: Read + Drop>(alloc: Global, file: R) -> Result<String, FileReadError>
     ensures { IfErr result IsTextFault }
 {
@@ -280,7 +287,7 @@ fn text_in<R: Read + Drop>(alloc: Global, file: R) -> Result<String, FileReadErr
     text_of(alloc, &bytes)
 }
 
-// The text of the bytes that were read, unless they are more than `MAX_BYTES`.
+// The text of the bytes that were read, unless they are more than `MAX_BYTES`. Invalid UTF-8 is replaced.
 #[tactic(auto, using(crate::proofs::FaultLemmas::memory_unread))]
 fn text_of(alloc: Global, bytes: &[u8]) -> Result<String, FileReadError>
     ensures text { IsTextOf bytes.now (by_ok string_bytes result) }
@@ -292,7 +299,7 @@ fn text_of(alloc: Global, bytes: &[u8]) -> Result<String, FileReadError>
     Ok(String::from_utf8_lossy(alloc, bytes)?)
 }
 
-// How many lines of a file were read, and how many of them are malformed.
+// How many lines of a file were counted so far, and how many of them are malformed. Both saturate.
 #[derive(Clone, Copy)]
 struct LineCounts {
     lines: u32,
@@ -300,7 +307,7 @@ struct LineCounts {
 }
 
 impl LineCounts {
-    // The counts with one line more.
+    // The counts once `line` is counted too.
     fn with(self, line: &str) -> LineCounts
         ensures { result ≡ reported.counted_with line.now self }
     {
@@ -315,7 +322,8 @@ impl LineCounts {
     }
 }
 
-// Reports the malformed lines of a file: the first ones one by one, and how many more there are.
+// Reports the malformed lines of the file at `path`: the first `MAX_REPORTED_LINES` one by one, then how
+// many more there are. Fails if memory runs out; a failed write is ignored.
 #[tactic(auto, using(host_files::proofs::lemmas::Reporting::reports_both))]
 fn report_lines<E: Write>(
     alloc: Global,
@@ -339,7 +347,8 @@ fn report_lines<E: Write>(
     report_rest(alloc, path, counted.malformed, errors)
 }
 
-// Reports the last line counted, if it is malformed and one of the first `MAX_REPORTED_LINES` that are.
+// Reports `line`, the last one counted, if it is malformed and one of the first `MAX_REPORTED_LINES` that
+// are. In `counted` it is already counted, so `counted.lines` is its number.
 #[tactic(auto, using(host_files::proofs::lemmas::Reporting::reports_nothing, crate::proofs::ReportedLemmas::reported_one))]
 fn report_if_malformed<E: Write>(
     alloc: Global,
@@ -360,7 +369,7 @@ fn report_if_malformed<E: Write>(
     Ok(())
 }
 
-// Reports how many malformed lines there are beyond the first `MAX_REPORTED_LINES`, if any.
+// Reports how many of the `malformed` malformed lines are beyond the first `MAX_REPORTED_LINES`, if any.
 #[tactic(auto, using(host_files::proofs::lemmas::Reporting::reports_nothing, crate::proofs::ReportedLemmas::reported_one))]
 fn report_rest<E: Write>(
     alloc: Global,
@@ -388,7 +397,8 @@ fn is_malformed(line: &str) -> bool
     parse_enrolment_line(line).is_none()
 }
 
-// Reports that the line with this number is malformed.
+// Reports that the line with this number, counted from 1, is malformed. Fails if memory runs out; a failed
+// write is ignored.
 #[tactic(auto, using(host_files::proofs::lemmas::Reporting::reports_nothing))]
 fn report_line<E: Write>(
     alloc: Global,
@@ -406,7 +416,7 @@ fn report_line<E: Write>(
     Ok(())
 }
 
-// What is reported of the malformed line with this number.
+// The text that reports the malformed line with this number.
 #[tactic(auto, unfolding(crate::specs::Operators::malformed_line))]
 fn malformed_text(alloc: Global, number: u32) -> Result<String, AllocError>
     ensures { IfOk result (λ text. string_bytes text ≡ spec.malformed_line number) }
@@ -414,7 +424,7 @@ fn malformed_text(alloc: Global, number: u32) -> Result<String, AllocError>
     format!(in alloc; "line {number} is not NAME CEILING, and passed over")
 }
 
-// Reports that `count` more lines are malformed.
+// Reports that `count` more lines are malformed. Fails if memory runs out; a failed write is ignored.
 #[tactic(auto, using(host_files::proofs::lemmas::Reporting::reports_nothing))]
 fn report_more<E: Write>(
     alloc: Global,
@@ -432,7 +442,7 @@ fn report_more<E: Write>(
     Ok(())
 }
 
-// What is reported of `count` more malformed lines.
+// The text that reports `count` more malformed lines.
 #[tactic(auto, unfolding(crate::specs::Operators::more_lines))]
 fn more_malformed_text(alloc: Global, count: u32) -> Result<String, AllocError>
     ensures { IfOk result (λ text. string_bytes text ≡ spec.more_lines count) }

@@ -7,7 +7,7 @@ ghost use Rattle.host_files.specs.FolderSteps.{steps_of};
 use host_files::access::new_cause;
 use host_files::naming::{Folder, NewFile};
 
-/// What prevents a new file.
+/// Why a new file can't be made.
 #[derive(Clone, Copy, Debug, PartialEq, Eq)]
 pub struct Taken<'n> {
     /// The path at which it can't be made.
@@ -16,12 +16,13 @@ pub struct Taken<'n> {
     pub cause: &'static str,
 }
 
-/// Checks that a new file can be made, and that nothing exists at its final and temporary names. What an
-/// interrupted copy left at the latter is removed first, but never the file to be copied (`source`).
+/// Checks that a new file can be made, and that nothing exists at its final and temporary names, `names`.
+/// What an interrupted copy left at the temporary names is removed first, but never the file to be copied,
+/// `source`.
 ///
 /// # Errors
 ///
-/// What prevents the new file.
+/// The first path at which something prevents the new file, and what.
 pub fn make_room<'n, P: Folder>(
     folder: &mut P,
     source: &str,
@@ -40,7 +41,7 @@ pub fn make_room<'n, P: Folder>(
     check_writable(folder, &names.part)
 }
 
-// Checks that nothing exists at a path.
+// Checks that nothing exists at a path, and that SQLite reads it as a path.
 fn check_free<'n, P: Folder>(folder: &mut P, path: &'n str) -> Result<(), Taken<'n>>
     ensures { Takes (steps_of P.Folder folder.old folder.new) (is_ok result) (Free path.now) }
 {
@@ -50,7 +51,8 @@ fn check_free<'n, P: Folder>(folder: &mut P, path: &'n str) -> Result<(), Taken<
     }
 }
 
-// Removes the file and the WAL that an interrupted copy may have left under temporary names.
+// Removes the file `part` and its WAL `log`, which an interrupted copy may have left under temporary names.
+// If that fails, the error names `part`. The file `source` is never removed.
 fn clear_part<'n, P: Folder>(
     folder: &mut P,
     source: &str,

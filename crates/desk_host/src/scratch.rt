@@ -25,7 +25,7 @@ pub struct ScratchCopy {
 }
 
 impl ScratchCopy {
-    // The paths of the scratch copy beside a path.
+    // The paths of the scratch copy beside the file at a path, and of its WAL.
     fn beside(alloc: Global, path: &str) -> Result<ScratchCopy, AllocError>
         ensures { IfOk result (AreTwins path.now) }
     {
@@ -37,8 +37,9 @@ impl ScratchCopy {
     }
 }
 
-/// Makes the scratch copy of `source` beside the path `beside`, and reports why if that fails. It is repaired
-/// if `is_mended`, and replaces one that an interrupted command left.
+/// Makes the scratch copy of `source`, beside the path `beside`. It is repaired if `is_mended`, else made
+/// byte for byte, and replaces one that an interrupted command left. If that fails, what was made is
+/// removed, and the cause is reported on `errors`, unless memory ran out.
 ///
 /// # Errors
 ///
@@ -73,7 +74,8 @@ pub fn make_scratch<P: Folder, E: Write>(
     }
 }
 
-// Reports why a scratch copy can't be made, and returns the error code.
+// Reports why the scratch copy of `source` at the path `scratch` can't be made, and returns the error code.
+// Nothing is reported if memory ran out.
 fn report_fault<E: Write>(
     alloc: Global,
     source: &str,

@@ -1,5 +1,5 @@
 //! How `check` and `copy` read a file: itself, or a scratch copy, if another program left wrong checksums or
-//! a non-canonical table order, or the WAL is damaged. It is decided before the file is opened.
+//! a table order that the desk doesn't read, or the WAL is damaged. It is decided before the file is opened.
 
 ghost use Rattle.std.specs.Prelude.{◌≡◌, false, IfSome};
 ghost use Rattle.host_files.specs.Access as access;
@@ -20,7 +20,7 @@ pub enum ReadMode {
     Damaged,
     /// A repaired scratch copy, since so many pages of the file have wrong checksums.
     BadChecksums(u64),
-    /// A repaired scratch copy, since the file lists its tables in a non-canonical order.
+    /// A repaired scratch copy, since the file lists its tables in an order that the desk doesn't read.
     OtherOrder,
 }
 
@@ -36,7 +36,8 @@ impl ReadMode {
         }
     }
 
-    /// How many pages with wrong checksums were copied untested, if the copy succeeded (`status` is 0).
+    /// How many pages with wrong checksums were copied untested. `None` if none were, or if the copy
+    /// failed: `status` is the exit status of the command, 0 if it succeeded.
     pub fn untested(self, status: u8) -> Option<u64>
         ensures { result ≡ spec.untested self status }
     {
@@ -47,15 +48,16 @@ impl ReadMode {
     }
 }
 
-/// How the file at a path is read, by whether its WAL is damaged. If the WAL may have a commit, the file
-/// itself is read: the WAL may have newer versions of its pages.
+/// How the file at a path is read, by whether its WAL is damaged (`is_damaged`). If a sound WAL may have a
+/// commit, the file itself is read: the WAL may have newer versions of its pages. So it is if SQLite reads
+/// the name otherwise than as a path.
 pub fn read_mode(rt: &HostRuntime, path: &str, is_damaged: bool) -> ReadMode
     ensures { MayBeRead is_damaged (access.is_no_path path.now) result }
 {
     mode_at(rt.alloc(), &LocalHost::new(rt), path, is_damaged)
 }
 
-// What `read_mode` returns, over any `HostFiles`.
+// What `read_mode` returns, for any `HostFiles`.
 fn mode_at<F: HostFiles>(alloc: Global, files: &F, path: &str, is_damaged: bool) -> ReadMode
     ensures way { IfSome (F.answers files.now) (λ it. IsWayAt it path.now is_damaged result) }
     ensures may { MayBeRead is_damaged (access.is_no_path path.now) result }
@@ -73,7 +75,8 @@ fn mode_at<F: HostFiles>(alloc: Global, files: &F, path: &str, is_damaged: bool)
 }
 
 // How a file is read, by whether its WAL is damaged, how many pages have wrong checksums (if known), and
-// whether its tables are in a non-canonical order.
+// whether it lists its tables in an order that the desk doesn't read. The first of these that is so
+// decides.
 fn way_for(is_damaged: bool, unsummed: Option<u64>, is_out_of_order: bool) -> ReadMode
     ensures way { result ≡ spec.way_for is_damaged unsummed is_out_of_order }
     ensures may { MayBeRead is_damaged false result }
@@ -88,7 +91,8 @@ fn way_for(is_damaged: bool, unsummed: Option<u64>, is_out_of_order: bool) -> Re
     }
 }
 
-// Whether recovery may apply a commit of a file's WAL; also true if that can't be found out.
+// Whether recovery may apply a commit of the WAL of the file at a path; also true if that can't be found
+// out. The WAL is looked for beside the file to which links lead, and its size is tested before it is read.
 fn has_changes<F: HostFiles>(alloc: Global, files: &F, path: &str) -> bool
     ensures { IfSome (F.answers files.now) (λ it. HasChanges it path.now result) }
 {

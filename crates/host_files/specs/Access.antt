@@ -1,4 +1,6 @@
--- Access: what a look at the path of a file that can't be opened finds, and what is reported of it.
+-- Access: what is found at the path of a file that can't be opened, and what is reported of it. In these
+-- definitions `it` stands for the answers of the machine, and `made` says that the command makes a missing
+-- file.
 use Rattle.std.specs.Prelude.{◌≡◌, ◌≢◌, ◌⊎◌, ⊤, ℕ, ◌==◌, Bool, true, false, if◌then◌else◌}
 use Rattle.std.specs.Prelude.{List, [], ◌∷◌, ◌++◌, codes}
 use Rattle.std.specs.Prelude.{bytes_eq, nat_eq, Option, None, Some, option_map, Result, Ok, Err, is_ok}
@@ -32,7 +34,8 @@ missing_by kind.NotADirectory = missing.NoFolder
 missing_by kind.PermissionDenied = missing.NoRight
 missing_by _ = missing.Other
 
--- what is at a path, by what was found there
+-- what is at a path: by whether it is a regular file and its length, and by the answer of the operating
+-- system
 abbrev pub place_with : Bool → ℕ → Place
 place_with false len = place.NotRegular
 place_with true len = if len == 0 then place.Empty else place.Filled
@@ -45,8 +48,9 @@ place_of (Err kind) = place.Nothing (missing_by kind)
 abbrev pub is_no_path : List ℕ → Bool
 is_no_path path = if bytes_eq path (codes ":memory:") then true else starts_with nat_eq path (codes "file:")
 
--- what is still to be asked, by what is there, and whether a file is made there; of a name that SQLite reads
--- otherwise than as a path nothing is, but whether an empty file can be opened that is made
+-- what is asked next: by what is there, whether SQLite reads the name otherwise than as a path, and whether
+-- the command makes a missing file. For such a name nothing more is asked, with one exception: if the
+-- command makes the file and an empty one is there, whether it can be opened.
 abbrev pub next_of_path : Place → Bool → Next
 next_of_path (place.Nothing missing.NoFile) true = next.Link
 next_of_path (place.Nothing it) made = next.Nothing (state.Missing it)
@@ -60,12 +64,12 @@ next_at it false made = next_of_path it made
 next_at place.Empty true true = next.Access
 next_at it true made = next.Nothing state.NoPath
 
--- what was found where nothing can be reached and a file is made, by whether a link is there
+-- what is at a path where no file exists, for a command that makes the file: by whether a link is there
 abbrev pub unmade_by : Bool → FileState
 unmade_by true = state.DeadLink
 unmade_by false = state.Free
 
--- why a file can't be opened, by why it can't be opened for reading, and for writing
+-- why a file can't be opened: by the error of opening it for reading, and by that of opening it for writing
 abbrev pub reading_denial : Option ErrorKind → Option Denial
 reading_denial (Some kind.PermissionDenied) = Some denial.NoReading
 reading_denial _ = None
@@ -75,19 +79,20 @@ writing_denial (Some kind.PermissionDenied) = Some denial.NoWriting
 writing_denial (Some kind.ReadOnlyFilesystem) = Some denial.ReadOnly
 writing_denial _ = None
 
--- so, by the error of opening it as SQLite does
+-- why a file can't be opened, by the error of opening it as SQLite does
 abbrev pub denial_by : OpenError → Option Denial
 denial_by opening.Busy = Some denial.Busy
 denial_by opening.HotJournal = Some denial.HotJournal
 denial_by (opening.Io error) = Some denial.Unopened
 denial_by opening.OutOfMemory = None
 
--- the first of two, if there is one
+-- the first of two causes, if there is one, else the second
 abbrev pub or_denial : Option Denial → Option Denial → Option Denial
 or_denial (Some it) next = Some it
 or_denial None next = next
 
--- why a file can't be opened, by why it can't be opened for reading, and what else the machine answers
+-- why a file can't be opened: by the error of opening it for reading, then by the machine's answers on
+-- opening it for writing and as SQLite does
 abbrev pub denial_after_open : Answers → List ℕ → Option ErrorKind → Option Denial
 denial_after_open it path unread =
     or_denial (reading_denial unread)
@@ -103,12 +108,12 @@ start_of (Ok bytes) =
 start_of (Err kind.UnexpectedEof) = start.Other
 start_of (Err _) = start.Unread
 
--- a file can be opened, and so begins somehow; or it can't be opened
+-- the result of looking how a file begins: any beginning if the file can be opened; else why it can't
 abbrev pub IsStartAt : Answers → List ℕ → Result Start Denial → Type 0
 IsStartAt it path (Ok start) = access_denial it path ≡ None
 IsStartAt it path (Err denial) = access_denial it path ≡ Some denial
 
--- what a look at a path finds, by what is still asked once it is known what is there
+-- what is found at a path, by what is asked once it is known what is there
 abbrev pub IsStateBy : Answers → List ℕ → Next → FileState → Type 0
 IsStateBy it path (next.Nothing found) now = now ≡ found
 IsStateBy it path next.Link now = now ≡ unmade_by (is_ok (it.entry path))
@@ -119,8 +124,8 @@ IsStateBy it path next.Start now = (begun : Result Start Denial) × (now ≡ sta
 abbrev pub IsStateAt : Answers → List ℕ → Bool → FileState → Type 0
 IsStateAt it path made = IsStateBy it path (next_at (place_of (it.found path)) (is_no_path path) made)
 
--- what a look at a path may find, whatever the machine answers, by whether SQLite reads the name otherwise
--- than as a path, and whether a file is made there
+-- what may be found at a path, whatever the machine answers: for a name that SQLite reads otherwise than as a
+-- path, for any other name, and for both by whether the name is such (true)
 abbrev pub MayFindUnasked : Bool → FileState → Type 0
 MayFindUnasked made state.NoPath = ⊤
 MayFindUnasked made (state.Made it) = made ≡ true
@@ -140,7 +145,7 @@ abbrev pub MayFind : Bool → Bool → FileState → Type 0
 MayFind true made found = MayFindUnasked made found
 MayFind false made found = MayFindAsked made found
 
--- so, by what is still asked
+-- what may be asked next, whatever the machine answers: a result has to be one that may be found
 abbrev pub MayAsk : Bool → Bool → Next → Type 0
 MayAsk no_path made (next.Nothing found) = MayFind no_path made found
 MayAsk no_path made next.Link = (no_path ≡ false) × (made ≡ true)
@@ -149,14 +154,14 @@ MayAsk no_path made next.Start = no_path ≡ false
 
 -- ---- what is reported
 
--- of a path at which nothing can be reached
+-- the text for a path at which nothing can be reached
 abbrev pub missing_text : Missing → List ℕ
 missing_text missing.NoFile = codes "no such file"
 missing_text missing.NoFolder = codes "no such folder"
 missing_text missing.NoRight = codes "no right to reach it"
 missing_text missing.Other = codes "it can't be reached"
 
--- of a file that can't be opened, whatever it holds
+-- the text for a file that can't be opened, whatever its content
 abbrev pub denial_text : Denial → List ℕ
 denial_text denial.NoReading = codes "no right to read it"
 denial_text denial.NoWriting = codes "no right to write it"
@@ -165,22 +170,22 @@ denial_text denial.Busy = codes "in use by another program"
 denial_text denial.HotJournal = codes "a journal of SQLite beside it: open it with sqlite3 first"
 denial_text denial.Unopened = codes "no right to its log or folder, a second name, or a disk that fails"
 
--- why a file can't be opened, whatever it holds, if so
+-- the text for a file that can't be opened, whatever its content; None if it can be opened
 abbrev pub access_cause : Answers → List ℕ → Option (List ℕ)
 access_cause it path = option_map denial_text (access_denial it path)
 
--- a text is reported of a file that can't be opened, whatever it holds
+-- a text is one of those for a file that can't be opened, whatever its content
 abbrev pub IsDenialText : List ℕ → Type 0
 IsDenialText text = (denial : Denial) × (text ≡ denial_text denial)
 
--- of a file that can be opened, and is refused for what it holds
+-- the text for a file that can be opened, and is refused for its content
 abbrev pub start_text : Start → List ℕ
 start_text start.Database =
     codes "a damaged page, the log of another file, rows that break a key, or a disk that fails"
 start_text start.Other = codes "no SQLite database"
 start_text start.Unread = codes "it can't be read"
 
--- of a file that is refused, by what a look at its path found
+-- the text for a file that is refused, by what was found at its path
 abbrev pub refusal_text : FileState → List ℕ
 refusal_text state.NoPath = codes "a name that SQLite reads otherwise than as a path"
 refusal_text (state.Missing it) = missing_text it
@@ -193,22 +198,22 @@ refusal_text (state.Made (Some it)) = denial_text it
 refusal_text (state.Filled (Ok it)) = start_text it
 refusal_text (state.Filled (Err it)) = denial_text it
 
--- of a path where no file is made, by whether SQLite reads the name otherwise than as a path
+-- the text for a path that isn't free, by whether SQLite reads the name otherwise than as a path
 abbrev pub taken_text : Bool → List ℕ
 taken_text true = codes "a name that SQLite reads otherwise than as a path"
 taken_text false = codes "it is there already"
 
--- nothing is there, where a file is made
+-- nothing is at the path, for a command that makes the file
 abbrev pub is_free : FileState → Bool
 is_free state.Free = true
 is_free _ = false
 
--- its pages may be damaged: their checksums are tested
+-- the pages of a file may be damaged: it can be opened, and begins as a database
 abbrev pub may_be_damaged : FileState → Bool
 may_be_damaged (state.Filled (Ok start.Database)) = true
 may_be_damaged _ = false
 
--- how many pages of a file have another checksum than theirs, if some have, and its pages may be damaged
+-- how many pages of a file have wrong checksums: None if no page has, or the file isn't refused for its pages
 abbrev pub if_any : Option ℕ → Option ℕ
 if_any None = None
 if_any (Some count) = if count == 0 then None else Some count
@@ -216,8 +221,9 @@ if_any (Some count) = if count == 0 then None else Some count
 abbrev pub bad_checksum_count : Answers → List ℕ → FileState → Option ℕ
 bad_checksum_count it path found = if may_be_damaged found then if_any (it.unsummed path) else None
 
--- why SQLite refuses a file, by whether there is none, and what is reported of what was found: where there is
--- none, one is made for a trial, and if it can't be, that is reported; else no folder is asked
+-- The text on a file that SQLite refuses: by whether its path is free, the text `found` for what was found
+-- there, the path, and the steps on the folder. At a free path a file is made and removed again: if that
+-- succeeds, the text is `found`; if not, any. At any other path there is no step, and the text is `found`.
 abbrev pub IsCauseBy : Bool → List ℕ → List ℕ → Steps → List ℕ → Type 0
 IsCauseBy true found path steps text =
     (Follows steps (Tried path ∷ []) × (text ≡ found)) ⊎ Follows steps (Failed ∷ [])

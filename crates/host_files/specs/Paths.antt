@@ -1,4 +1,4 @@
--- OpenPaths: what is asked of the paths of a desk's files before a change is made.
+-- OpenPaths: the checks of the paths of a desk's open files, which are made before each change.
 use Rattle.std.specs.Prelude.{◌≡◌, ◌⊎◌, ℕ, Bool, true, false, List, [], ◌∷◌, Option, None, Some, Result, Ok, Err}
 use Rattle.std.specs.declared.io.ErrorKind.{ErrorKind}
 use Rattle.desk_wire.specs.Passage.{Course}
@@ -9,18 +9,20 @@ use Rattle.host_files.specs.declared.files.Found.{Found}
 use Rattle.host_files.specs.declared.files.Identity.{Identity}
 use Rattle.host_files.specs.declared.paths.LocalOpenPaths.{LocalOpenPaths}
 
--- a look at a path: whether that of the database file, or that of its WAL, leads to the file that is open
+-- a check: whether the path of the database file, or that of its WAL, leads to the file that is open
 pub data Look : Type 0 where
   File : Bool → Look
   Log : Bool → Look
 
--- both paths are looked at, and lead to the files; or one of them doesn't, and no more is looked at
+-- both paths are checked in this order, and lead to the open files (true); or one of them doesn't, and no
+-- more is checked (false)
 abbrev pub AreAtPaths : Course (Option (List Look)) → Bool → Type 0
 AreAtPaths looks true = Grows looks.before looks.after (File true ∷ Log true ∷ [])
 AreAtPaths looks false = Grows looks.before looks.after (File false ∷ [])
     ⊎ Grows looks.before looks.after (File true ∷ Log false ∷ [])
 
--- where the WAL of a file is: beside the file to which a link leads
+-- the path of the WAL of a file: beside the file to which the path leads, or beside the path if it leads
+-- nowhere
 abbrev pub log_by : List ℕ → Result (List ℕ) ErrorKind → List ℕ
 log_by path (Ok real) = log_of real
 log_by path (Err error) = log_of path
@@ -28,7 +30,7 @@ log_by path (Err error) = log_of path
 abbrev pub log_at : Answers → List ℕ → List ℕ
 log_at it path = log_by path (it.real path)
 
--- the file to which a path leads, if it leads to one
+-- the identity of the file to which a path leads, if it leads to one
 abbrev pub identity_of : Result Found ErrorKind → Option Identity
 identity_of (Ok found) = Some found.identity
 identity_of (Err error) = None
@@ -36,7 +38,7 @@ identity_of (Err error) = None
 abbrev pub identity_at : Answers → List ℕ → Option Identity
 identity_at it path = identity_of (it.found path)
 
--- the paths of a file of which nothing is held yet
+-- the paths of a file, while no file is noted as open and nothing was reported
 pub record IsUnheldAt (file : List ℕ) (paths : LocalOpenPaths) : Type 0 where
   pub path : paths.file.now ≡ file
   pub no_file : paths.held_file ≡ None

@@ -18,13 +18,14 @@ use crate::state::{Denial, FileState, Missing, Start};
 use std::alloc::Global;
 use std::io::Write;
 
+// The cause for a name that SQLite reads as a database in memory or as a URI.
 const NO_PATH: &str = "a name that SQLite reads otherwise than as a path";
 
 // The cause for a file of another format, and for what is no regular file.
 const NO_DATABASE: &str = "no SQLite database";
 
-/// Why no new file can be made at `path`: SQLite doesn't read it as a path, or something exists there. `None`
-/// if it is free.
+/// Why no new file can be made at `path`: SQLite doesn't read it as a path, or something exists there, or may
+/// exist there. `None` if the path is free.
 pub fn new_cause<P: Folder>(folder: &mut P, path: &str) -> Option<&'static str>
     ensures { TakesIfNone (steps_of P.Folder folder.old folder.new) result (Free path.now) }
 {
@@ -34,15 +35,16 @@ pub fn new_cause<P: Folder>(folder: &mut P, path: &str) -> Option<&'static str>
     Some(taken_text(is_no_path(path)))
 }
 
-// Why a path isn't free.
+// Why a path isn't free: SQLite reads it otherwise than as a path (`is_no_path`), or something exists there.
 fn taken_text(is_no_path: bool) -> &'static str
     ensures { result.now ≡ spec.taken_text is_no_path }
 {
     if is_no_path { NO_PATH } else { TAKEN }
 }
 
-/// Reports why SQLite refuses the file at `path`, under the name `name`, by the `state` that `probe` found.
-/// If the pages may be damaged, the report counts those with wrong checksums.
+/// Reports why SQLite refuses the file at `path`, by the `state` that `probe` found there. The report calls
+/// the file `name`. If its pages may be damaged and some have wrong checksums, it says how many. A failed
+/// write and running out of memory are ignored.
 #[tactic(auto, using(crate::proofs::lemmas::Reporting::reports_nothing))]
 pub fn report_store<E: Write>(
     rt: &HostRuntime,
@@ -62,8 +64,8 @@ pub fn report_store<E: Write>(
     }
 }
 
-// How many pages of a file have wrong checksums. `None` if none have, or the file isn't refused for its
-// pages.
+// How many pages of a file have wrong checksums, by the `state` that `probe` found. `None` if no page has,
+// if that can't be found out, or if the file isn't refused for its pages.
 fn bad_checksum_count<F: HostFiles>(files: &F, path: &str, state: FileState) -> Option<u64>
     ensures { IfSome (F.answers files.now) (λ it. result ≡ spec.bad_checksum_count it path.now state) }
 {
@@ -76,14 +78,15 @@ fn bad_checksum_count<F: HostFiles>(files: &F, path: &str, state: FileState) -> 
     }
 }
 
-// Whether a file may be refused for damaged pages: every other cause was excluded.
+// Whether a file may be refused for damaged pages: it can be opened, and begins as a database.
 fn may_be_damaged(state: FileState) -> bool
     ensures { result ≡ spec.may_be_damaged state }
 {
     matches!(state, FileState::Filled(Ok(Start::Database)))
 }
 
-// Reports that `count` pages have wrong checksums. A failed write and running out of memory are ignored.
+// Reports that `count` pages of the file at `path` have wrong checksums. A failed write and running out of
+// memory are ignored.
 #[tactic(auto, using(crate::proofs::lemmas::Reporting::reports_nothing))]
 fn report_pages<E: Write>(alloc: Global, path: &str, count: u64, errors: &mut E)
     ensures { Reports (bytes_written E.Write errors.old errors.new) }
@@ -96,7 +99,8 @@ fn report_pages<E: Write>(alloc: Global, path: &str, count: u64, errors: &mut E)
     }
 }
 
-// Why SQLite refuses a file. If there is none, one is made and removed again, to learn why it can't be made.
+// Why SQLite refuses the file at `path`, by the `state` that `probe` found. If the path is free, a file is
+// made there and removed again, to learn why none can be made.
 fn cause_of<P: Folder>(folder: &mut P, path: &str, state: FileState) -> &'static str
     ensures { IsCauseBy (spec.is_free state) (spec.refusal_text state) path.now
         (steps_of P.Folder folder.old folder.new) result.now }
@@ -110,21 +114,21 @@ fn cause_of<P: Folder>(folder: &mut P, path: &str, state: FileState) -> &'static
     }
 }
 
-// Whether the path is free, for a command that makes the file.
+// Whether nothing is at the path, for a command that makes the file.
 fn is_free(state: FileState) -> bool
     ensures { result ≡ spec.is_free state }
 {
     matches!(state, FileState::Free)
 }
 
-/// Why the file at a path can't be opened, whatever its content; `None` if it can.
+/// Why the file at a path can't be opened, whatever its content, in the words of a report; `None` if it can.
 pub fn access_cause(rt: &HostRuntime, path: &str) -> Option<&'static str>
     ensures { IfSome result (λ cause. IsDenialText cause.now) }
 {
     cause_at(&mut LocalHost::new(rt), path)
 }
 
-/// What `access_cause` returns, over any `HostFiles`.
+/// What `access_cause` returns, for any `HostFiles`.
 pub fn cause_at<F: HostFiles>(files: &mut F, path: &str) -> Option<&'static str>
     ensures answer { IfSome (F.answers files.old) (λ it.
         option_map (λ cause. cause.now) result ≡ spec.access_cause it path.now) }

@@ -1,5 +1,5 @@
 //! What the program asks the operating system about files before it opens one. No contract says what the
-//! answers are: contracts that use `HostFiles` say what follows from them.
+//! answers are: contracts of functions that use `HostFiles` say what follows from the answers.
 
 ghost use Rattle.std.specs.Prelude.{◌≡◌, ◌∷◌, [], ℕ, Err, IfOk, IfSome, List, MatchResult, None, Option};
 ghost use Rattle.std.specs.Prelude.{string_bytes};
@@ -17,7 +17,7 @@ use std::fs::{self, File, Metadata, OpenOptions};
 use std::io::{self, ErrorKind, Read, Stderr, Stdin, Stdout};
 use std::os::unix::fs::MetadataExt;
 
-/// What exists at a path.
+/// What the operating system says of what exists at a path.
 #[derive(Clone, Copy)]
 pub struct Found {
     /// Whether it is a regular file.
@@ -52,7 +52,7 @@ pub trait HostFiles {
     ///
     /// # Errors
     ///
-    /// Why nothing can be reached.
+    /// The kind of the error: why nothing can be reached.
     fn find(&self, path: &str) -> Result<Found, ErrorKind>
         ensures { IfSome (answers self.now) (λ it. result ≡ it.found path.now) };
 
@@ -60,7 +60,7 @@ pub trait HostFiles {
     ///
     /// # Errors
     ///
-    /// Why nothing can be reached.
+    /// The kind of the error: why nothing can be reached.
     fn find_entry(&self, path: &str) -> Result<Found, ErrorKind>
         ensures { IfSome (answers self.now) (λ it. result ≡ it.entry path.now) };
 
@@ -68,7 +68,7 @@ pub trait HostFiles {
     ///
     /// # Errors
     ///
-    /// Why nothing can be reached.
+    /// The kind of the error: why nothing can be reached.
     fn real(&self, path: &str) -> Result<String, ErrorKind>
         ensures { IfSome (answers self.now) (λ it. by_ok string_bytes result ≡ it.real path.now) };
 
@@ -76,7 +76,7 @@ pub trait HostFiles {
     ///
     /// # Errors
     ///
-    /// Why it can't be opened.
+    /// The kind of the error: why it can't be opened.
     fn open(&self, path: &str) -> Result<Self::File, ErrorKind>
         ensures error { IfSome (answers self.now) (λ it. error_of result ≡ it.unread path.now) }
         ensures bytes { IfSome (answers self.now) (λ it.
@@ -86,23 +86,26 @@ pub trait HostFiles {
     fn writing_error(&self, path: &str) -> Option<ErrorKind>
         ensures { IfSome (answers self.now) (λ it. result ≡ it.unwritten path.now) };
 
-    /// Why a file can't be opened as SQLite opens it; `None` if it can. A WAL is made beside it if it has
-    /// none.
+    /// Why a file can't be opened as SQLite opens it; `None` if it can, or if memory ran out. The file is
+    /// closed again. A WAL is made beside it if it has none.
     fn opening_denial(&mut self, path: &str) -> Option<Denial>
         ensures answer { IfSome (answers self.old) (λ it. result ≡ it.unheld path.now) }
         ensures same { answers self.new ≡ answers self.old }
         ensures opens { Grows (openings self.old) (openings self.new) (path.now ∷ []) };
 
-    /// How many pages of a database have wrong checksums, if that can be found out.
+    /// How many pages of a database have wrong checksums. `None` if its pages have no checksums, or can't
+    /// be read.
     fn unsummed(&self, path: &str) -> Option<u64>
         ensures { IfSome (answers self.now) (λ it. result ≡ it.unsummed path.now) };
 
-    /// Whether a database has the tables of the schema, but lists them in a non-canonical order.
+    /// Whether a database lists the tables and indexes of the schema, or the first few of them, in an order
+    /// that the desk doesn't read: neither the canonical one nor that of a VACUUM. False if it can't be
+    /// read.
     fn is_out_of_order(&self, path: &str) -> bool
         ensures { IfSome (answers self.now) (λ it. result ≡ it.disordered path.now) };
 
-    /// Whether recovery applies a commit of a file's WAL; also true if that can't be found out. It applies
-    /// none if the WAL was cut off within its first commit.
+    /// Whether recovery applies a commit of the WAL of the file at a path; also true if that can't be found
+    /// out. It applies none if the WAL was cut off within its first commit.
     fn takes_commit(&self, path: &str) -> bool
         ensures { IfSome (answers self.now) (λ it. result ≡ it.recovered path.now) };
 }
@@ -210,7 +213,8 @@ fn denial_by(error: OpenError) -> Option<Denial>
     }
 }
 
-// What exists at a path, by the metadata of the operating system.
+// What exists at a path, by the metadata of the operating system; or the kind of the error of asking for
+// them.
 fn found_of(found: io::Result<Metadata>) -> Result<Found, ErrorKind>
     ensures { MatchResult found (λ said. IfOk result (IsFoundAs said))
         (λ error. result ≡ Err (error_kind error)) }

@@ -33,7 +33,8 @@ pub const READ_ONLY: &str = "a read-only file system";
 /// The mode of a file that only its owner can read and write.
 pub const OWNER_ALONE: u32 = 0o600;
 
-/// Operations on the folders in which new files get their names.
+/// Operations on the folders in which new files get their names. Each one is noted as a step, `Failed` if it
+/// didn't succeed.
 pub trait Folder {
     /// The operations so far, in order, if known.
     ghost steps: { Self → Option (List Step) } = { λ _. None };
@@ -42,18 +43,18 @@ pub trait Folder {
     fn is_free(&mut self, path: &str) -> bool
         ensures { Takes (course (steps self.old) (steps self.new)) result (Free path.now) };
 
-    /// Removes the file `part` and its WAL `log`, which an interrupted copy may have left. Nothing is removed
-    /// if one of them is the file `source`, or if a program has it open. Returns why something is still
-    /// there, if so.
+    /// Removes the file `part` and its WAL `log`, which an interrupted copy may have left; either may be
+    /// missing. Nothing is removed if one of them is the file `source` or no regular file, or if a program
+    /// has `part` open. Returns why they may still exist; `None` if neither does.
     fn clear(&mut self, source: &str, part: &str, log: &str) -> Option<&'static str>
         ensures { TakesIfNone (course (steps self.old) (steps self.new)) result (Cleared part.now log.now) };
 
-    /// Makes a file at a path and removes it again. Returns why that failed, if it did.
+    /// Makes a file at a free path and removes it again. Returns why that failed, or `None`.
     fn try_file(&mut self, path: &str) -> Option<&'static str>
         ensures { TakesIfNone (course (steps self.old) (steps self.new)) result (Tried path.now) };
 
     /// Makes the scratch copy of `source` at the free path `scratch`: repaired if `is_mended`, else byte for
-    /// byte together with its WAL. Returns why that failed, if it did.
+    /// byte together with its WAL. Returns why that failed, or `None`.
     fn scratch(&mut self, source: &str, scratch: &str, is_mended: bool) -> Option<ScratchFault>
         ensures { TakesIfNone (course (steps self.old) (steps self.new)) result
             (Twinned source.now scratch.now is_mended) };
@@ -62,12 +63,12 @@ pub trait Folder {
     fn remove(&mut self, path: &str) -> bool
         ensures { Takes (course (steps self.old) (steps self.new)) result (Removed path.now) };
 
-    /// Renames a file, and returns whether that succeeded. If the file system has modes, only the owner can
-    /// then read and write it.
+    /// Renames the file `from` to `to`, and returns whether that succeeded. If the file system has modes,
+    /// only the owner can then read and write it.
     fn rename(&mut self, from: &str, to: &str) -> bool
         ensures { Takes (course (steps self.old) (steps self.new)) result (Renamed from.now to.now) };
 
-    /// Syncs the folder of a path, and returns whether that succeeded.
+    /// Syncs the folder that a file is in, by the file's path. Returns whether that succeeded.
     fn sync(&mut self, path: &str) -> bool
         ensures { Takes (course (steps self.old) (steps self.new)) result (Synced path.now) };
 
@@ -127,7 +128,7 @@ impl Folder for LocalHost<'_> {
     }
 }
 
-/// Why a new file can't be made, in words, by the kind of the error.
+/// Why a new file can't be made, in the words of a report, by the kind of the error.
 pub fn unmade_text(kind: ErrorKind) -> &'static str
     ensures { result.now ≡ unmade.unmade_text kind }
 {
@@ -151,7 +152,7 @@ pub fn is_no_path(path: &str) -> bool
     path.as_bytes().starts_with(b"file:".as_slice())
 }
 
-/// Whether it is certain that nothing exists at a path.
+/// Whether it is certain that nothing exists at a path, not even a link; false if that can't be found out.
 pub(crate) fn is_missing<F: HostFiles>(files: &F, path: &str) -> bool
     ensures { IfSome (F.answers files.now) (λ it. result ≡ left.is_missing it path.now) }
 {
@@ -161,8 +162,8 @@ pub(crate) fn is_missing<F: HostFiles>(files: &F, path: &str) -> bool
     }
 }
 
-// Whether an interrupted copy may have left what is at `path`: nothing is there, or a file other than
-// `source`.
+// Whether what is at `path` may be removed as left by an interrupted copy: nothing is there, or a regular
+// file other than `source`.
 fn is_left<F: HostFiles>(files: &F, source: &str, path: &str) -> bool
     ensures { IfSome (F.answers files.now) (λ it. result ≡ left.is_left it source.now path.now) }
 {
@@ -173,7 +174,8 @@ fn is_left<F: HostFiles>(files: &F, source: &str, path: &str) -> bool
     }
 }
 
-// Removes a file and its WAL, which are locked meanwhile. Returns why that failed, if it did.
+// Removes the file `part` and its WAL `log`, which are locked meanwhile. The WAL goes first: if that fails,
+// both stay. Returns why they weren't removed, or `None`.
 fn clear_left(rt: &HostRuntime, part: &str, log: &str) -> Option<&'static str> {
     match sqlite_std_file::open(rt, part, Unknown) {
         Ok(_held) => match fs::remove_file(rt, log).and_then(|()| fs::remove_file(rt, part)) {
@@ -185,8 +187,8 @@ fn clear_left(rt: &HostRuntime, part: &str, log: &str) -> Option<&'static str> {
     }
 }
 
-/// Makes an empty file at a free path that only its owner can read and write. Errors are ignored, since
-/// opening the file meets them again.
+/// Makes an empty file at a path, if nothing exists there: only its owner can read and write it. Errors are
+/// ignored, since opening the file meets them again.
 pub fn make_private(rt: &HostRuntime, path: &str) {
     if !is_no_path(path) {
         let _ = OpenOptions::new()
@@ -197,7 +199,8 @@ pub fn make_private(rt: &HostRuntime, path: &str) {
     }
 }
 
-/// Syncs the folder of a path.
+/// Syncs the folder that a file is in, by the file's path. Links in the path are resolved first, so the
+/// file has to exist.
 ///
 /// # Errors
 ///
@@ -221,7 +224,7 @@ pub struct NewFile {
     pub part_log: String,
 }
 
-/// The names of the new file at the path `to`.
+/// The names of the new file whose final path is `to`.
 ///
 /// # Errors
 ///
@@ -250,7 +253,8 @@ pub fn name_with(alloc: Global, path: &str, end: &str) -> Result<String, AllocEr
 }
 
 /// Gives a complete new file its final name: removes its WAL, which is empty, renames it, and syncs its
-/// folder. Returns whether all of that succeeded.
+/// folder. Returns whether all of that succeeded. If only the sync fails, the file has its name all the
+/// same.
 #[tactic(auto, using(crate::proofs::lemmas::Naming::fails_after))]
 pub fn publish<N: Folder>(folder: &mut N, names: &NewFile) -> bool
     ensures named { (to : List ℕ) → AreNames to names.now → result ≡ true

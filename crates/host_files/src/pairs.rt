@@ -1,4 +1,4 @@
-//! The scratch copies of files of the operating system.
+//! Makes the scratch copy of a database file: repaired, or byte for byte together with its WAL.
 
 ghost use Rattle.std.specs.Prelude.{◌≡◌, IfErr, IfSome};
 ghost use Rattle.host_files.specs.LeftFiles as left;
@@ -41,13 +41,13 @@ impl From<AllocError> for ScratchFault {
 // The cause for a file that can't be read.
 const UNREAD: &str = "it can't be read";
 
-/// Makes the scratch copy of the file `source` at the free path `scratch`: repaired if `is_mended`, else byte
-/// for byte together with its WAL. Only its owner can read it. `source` is locked meanwhile; a WAL that
-/// locking makes beside it is removed.
+/// Makes the scratch copy of the file `source` at the free path `scratch`: repaired if `is_mended`, else
+/// byte for byte together with its WAL. Only its owner can read it. `source` is locked meanwhile. Locking
+/// may make an empty WAL beside it, which is removed again.
 ///
 /// # Errors
 ///
-/// Why that failed. What was written by then stays.
+/// Why that failed. What was written until then stays: the caller removes it.
 pub fn write_scratch(
     rt: &HostRuntime,
     source: &str,
@@ -77,7 +77,7 @@ pub fn write_scratch(
     }
 }
 
-// Whether an empty file exists at a path.
+// Whether an empty regular file exists at a path itself; false if it is a link, or can't be reached.
 fn is_empty<F: HostFiles>(files: &F, path: &str) -> bool
     ensures { IfSome (F.answers files.now) (λ it. result ≡ left.is_empty it path.now) }
 {
@@ -87,8 +87,8 @@ fn is_empty<F: HostFiles>(files: &F, path: &str) -> bool
     }
 }
 
-// Writes a repaired copy of a file. The file is opened only once, and closed last: closing it releases its
-// lock.
+// Writes a repaired copy of the file `source` to the free path `scratch`. The source is opened only once, and
+// closed last: closing it releases its lock.
 fn write_mended(rt: &HostRuntime, source: &str, scratch: &str) -> Result<(), ScratchFault>
     ensures { IfErr result IsCopyFault }
 {
@@ -103,7 +103,8 @@ fn write_mended(rt: &HostRuntime, source: &str, scratch: &str) -> Result<(), Scr
     }
 }
 
-// Copies a file and its WAL. Both are closed last: closing one releases its lock.
+// Copies the file `source` and its WAL `log` to the free path `scratch` and its WAL. The originals are
+// closed last: closing one releases its lock.
 fn write_pair(
     rt: &HostRuntime,
     source: &str,
@@ -119,7 +120,7 @@ fn write_pair(
     copy_bytes(&mut changes, &mut made_log).map_err(|error| copy_fault(error.kind()))
 }
 
-// Makes a file at a free path that only its owner can read and write.
+// Makes an empty file at a free path, and opens it for writing. Only its owner can read and write it.
 fn new_file(rt: &HostRuntime, path: &str) -> Result<File, ScratchFault>
     ensures { IfErr result (IsScratchFaultBy spec.made_text) }
 {
@@ -134,7 +135,7 @@ fn new_file(rt: &HostRuntime, path: &str) -> Result<File, ScratchFault>
     }
 }
 
-// Why the scratch copy can't be made, by the kind of the error.
+// Why the scratch copy can't be made, by the kind of the error of making its file.
 fn made_fault(kind: ErrorKind) -> ScratchFault
     ensures { spec.fault_text result ≡ spec.made_text kind }
 {
@@ -144,7 +145,7 @@ fn made_fault(kind: ErrorKind) -> ScratchFault
     }
 }
 
-// Why the file to be copied can't be read, by the kind of the error.
+// Why the file to be copied can't be read, by the kind of the error of opening it.
 fn source_fault(kind: ErrorKind) -> ScratchFault
     ensures { spec.fault_text result ≡ spec.source_text kind }
 {
@@ -154,7 +155,7 @@ fn source_fault(kind: ErrorKind) -> ScratchFault
     }
 }
 
-// Why copying stopped, by the kind of the error.
+// Why copying stopped, by the kind of the error of a read or a write: it doesn't say which of them failed.
 fn copy_fault(kind: ErrorKind) -> ScratchFault
     ensures { spec.fault_text result ≡ spec.copy_text kind }
 {

@@ -22,7 +22,8 @@ pub trait OpenPaths {
     ghost looks: { Self → Option (List Look) } = { λ _. None };
 
     /// Notes which files the paths lead to: these are the open ones. It is called before the database is
-    /// opened, and again afterwards, for a file that didn't exist before.
+    /// opened, and again afterwards, for a file that didn't exist before. A file that was noted stays
+    /// noted.
     fn hold(&mut self)
         ensures { looks self.new ≡ looks self.old };
 
@@ -64,7 +65,8 @@ pub struct LocalOpenPaths<'r> {
     is_reported: bool,
 }
 
-/// The paths of the files of a database; empty ones if it is in memory.
+/// The paths of the files of a database, which aren't noted as open yet. The path of the file is empty if the
+/// database is in memory.
 ///
 /// # Errors
 ///
@@ -79,7 +81,7 @@ pub fn paths_at<'r>(
     paths_beside(rt, database.path().unwrap_or(""))
 }
 
-// The paths of the database file `file` and of its WAL.
+// The paths of the database file at the path `file` and of its WAL. No file is noted as open yet.
 fn paths_beside<'r>(rt: &'r HostRuntime, file: &'r str) -> Result<LocalOpenPaths<'r>, ErrorCode>
     ensures unheld { IfOk result (λ paths. IsUnheldAt file.entry.now paths) }
     ensures fault { IfErr result (λ f. f ≡ Memory) }
@@ -94,7 +96,8 @@ fn paths_beside<'r>(rt: &'r HostRuntime, file: &'r str) -> Result<LocalOpenPaths
     })
 }
 
-// The path of the WAL of a file. If the path is a link, the WAL is beside the file to which it leads.
+// The path of the WAL of the file at the path `file`. If that is a link, the WAL is beside the file to
+// which it leads; if it leads nowhere, beside the path itself.
 fn log_beside<F: HostFiles>(alloc: Global, files: &F, file: &str) -> Result<String, ErrorCode>
     ensures log { IfOk result (λ log. IfSome (F.answers files.now) (λ it.
         string_bytes log ≡ spec.log_at it file.now)) }
@@ -108,7 +111,8 @@ fn log_beside<F: HostFiles>(alloc: Global, files: &F, file: &str) -> Result<Stri
 }
 
 impl LocalOpenPaths<'_> {
-    // Reports `text` about the database file, unless something was reported before.
+    // Reports `text` about the database file, unless something was reported before. A failed write is
+    // ignored.
     fn report_once(&mut self, text: &str)
         ensures reported { self.new.is_reported ≡ true }
         ensures same { (self.new.held_file ≡ self.old.held_file)
@@ -148,7 +152,7 @@ impl OpenPaths for LocalOpenPaths<'_> {
     }
 }
 
-// Whether a path leads to the file `held`.
+// Whether a path leads to the file `held`; false if `held` is `None`, or nothing can be reached.
 pub(crate) fn is_at<F: HostFiles>(files: &F, path: &str, held: Option<Identity>) -> bool
     ensures { IfSome (F.answers files.now) (λ it. result ≡ left.is_at it path.now held) }
 {
@@ -158,7 +162,7 @@ pub(crate) fn is_at<F: HostFiles>(files: &F, path: &str, held: Option<Identity>)
     }
 }
 
-// The identity of the file to which a path leads, if it leads to one.
+// The identity of the file to which a path leads; `None` if nothing can be reached.
 fn identity_at<F: HostFiles>(files: &F, path: &str) -> Option<Identity>
     ensures { IfSome (F.answers files.now) (λ it. result ≡ spec.identity_at it path.now) }
 {

@@ -16,15 +16,14 @@ use crate::state::{
 };
 use std::io::{ErrorKind, Read};
 
-/// Finds out what is at a path, for a command that makes a missing file (`is_made`) or that needs it to
-/// exist.
+/// Finds out what is at a path. `is_made`: the command makes a missing file; else it needs one that exists.
 pub fn probe(rt: &HostRuntime, path: &str, is_made: bool) -> FileState
     ensures { MayFind (spec.is_no_path path.now) is_made result }
 {
     probe_at(&mut LocalHost::new(rt), path, is_made)
 }
 
-// What `probe` returns, over any `HostFiles`.
+// What `probe` returns, for any `HostFiles`.
 fn probe_at<F: HostFiles>(files: &mut F, path: &str, is_made: bool) -> FileState
     ensures answer { IfSome (F.answers files.old) (λ it. IsStateAt it path.now is_made result) }
     ensures may { MayFind (spec.is_no_path path.now) is_made result }
@@ -38,7 +37,7 @@ fn probe_at<F: HostFiles>(files: &mut F, path: &str, is_made: bool) -> FileState
     }
 }
 
-/// Why the file at a path can't be opened, whatever its content; `None` if it can.
+/// Why the file at a path can't be opened, whatever its content; `None` if it can, or if memory ran out.
 pub fn probe_access<F: HostFiles>(files: &mut F, path: &str) -> Option<Denial>
     ensures answer { IfSome (F.answers files.old) (λ it. result ≡ spec.access_denial it path.now) }
     ensures opens { OpensAtMost F.HostFiles path.now files.old files.new }
@@ -59,7 +58,7 @@ fn probe_start<F: HostFiles>(files: &mut F, path: &str) -> Result<Start, Denial>
     }
 }
 
-// The error of opening a file, if that failed.
+// The kind of the error of opening a file, if that failed.
 fn open_error<R>(opened: &Result<R, ErrorKind>) -> Option<ErrorKind>
     ensures { result ≡ error_of opened.now }
 {
@@ -69,8 +68,9 @@ fn open_error<R>(opened: &Result<R, ErrorKind>) -> Option<ErrorKind>
     }
 }
 
-// Why a file can't be opened: by the error of opening it for reading (`unread`), then of opening it for
-// writing, then of opening it as SQLite does.
+// Why a file can't be opened; `None` if it can, or if memory ran out. Opening it for reading was tried
+// before, and `unread` is the error if that failed. The first cause counts: that error, then that of
+// opening the file for writing, then that of opening it as SQLite does.
 fn denial_after_open<F: HostFiles>(
     files: &mut F,
     path: &str,
@@ -88,7 +88,8 @@ fn denial_after_open<F: HostFiles>(
     files.opening_denial(path)
 }
 
-// The first 16 bytes of a file, or the error of opening or reading it.
+// The first 16 bytes of the file `opened`, or the kind of the error of opening or reading it. The file is
+// closed.
 fn first_bytes<R: Read + Drop>(opened: Result<R, ErrorKind>) -> Result<[u8; 16], ErrorKind>
     ensures { MatchResult opened (λ file. IfOk result (λ bytes. (rest : Option (List ℕ))
         × Consumes (R.remaining file) rest bytes)) (λ kind. result ≡ Err kind) }

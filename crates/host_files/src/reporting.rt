@@ -13,7 +13,8 @@ use std::io::Write;
 // What is reported of a database without operators.
 const UNENROLLED: &str = "no operator is enrolled, so each request is answered 403";
 
-/// Prints `uss_desk: PATH: TEXT`. A failed write and running out of memory are ignored.
+/// Prints the line `uss_desk: PATH: TEXT` on `errors`, the standard error. A failed write and running out of
+/// memory are ignored.
 #[tactic(auto, using(crate::proofs::lemmas::Reporting::reports_noted))]
 pub fn report_of<E: Write>(alloc: Global, path: &str, text: &str, errors: &mut E)
     ensures line { IsWrittenIfRoom (spec.line_of path.now text.now)
@@ -37,7 +38,7 @@ pub fn line_of(alloc: Global, path: &str, text: &str) -> Result<String, AllocErr
     format!(in alloc; "uss_desk: {path}: {text}\n")
 }
 
-/// Prints a line, and returns where the write broke off, if it did.
+/// Prints a line, and returns where the write broke off, or `None`.
 #[tactic(auto, using(crate::proofs::lemmas::Reporting::noted))]
 pub fn report_line<E: Write>(line: &str, errors: &mut E) -> Option<WriteError<E>>
     ensures cut { IsWrittenUpTo line.now result (bytes_written E.Write errors.old errors.new) }
@@ -49,7 +50,8 @@ pub fn report_line<E: Write>(line: &str, errors: &mut E) -> Option<WriteError<E>
     }
 }
 
-/// Reports which argument is malformed: `uss_desk: ARGUMENT: CAUSE`. A failed write is ignored.
+/// Reports which of the arguments `words` is malformed, as `uss_desk: ARGUMENT: CAUSE`, if one is. A failed
+/// write and running out of memory are ignored.
 #[tactic(auto, using(crate::proofs::lemmas::Reporting::reports_nothing))]
 pub fn report_malformed_argument<E: Write>(alloc: Global, words: &[String], errors: &mut E)
     ensures { Reports (bytes_written E.Write errors.old errors.new) }
@@ -59,8 +61,8 @@ pub fn report_malformed_argument<E: Write>(alloc: Global, words: &[String], erro
     }
 }
 
-/// Reports that a database has no operator: the one in the file at `path`, or the one in memory. A failed
-/// write is ignored.
+/// Reports that a database has no operator: the one in the file at `path`, or the one in memory if that is
+/// `None`. A failed write and running out of memory are ignored.
 pub fn report_unenrolled<E: Write>(alloc: Global, path: Option<&str>, errors: &mut E)
     ensures { IsWrittenIfRoom (spec.unenrolled_line (option_map (λ path. path.now) path.entry))
         (bytes_written E.Write errors.old errors.new) }

@@ -26,7 +26,8 @@ pub enum FileState {
     NotRegular,
     /// An empty file, for a command that needs a database.
     Empty,
-    /// An empty file, for a command that makes the database in it; and why it can't be opened, if so.
+    /// An empty file, for a command that makes the database in it: why it can't be opened, or `None` if it
+    /// can.
     Made(Option<Denial>),
     /// A file that isn't empty: how it begins, or why it can't be opened.
     Filled(Result<Start, Denial>),
@@ -73,7 +74,7 @@ pub enum Start {
     Unread,
 }
 
-/// What exists at a path.
+/// What exists at a path, before the file is opened.
 #[derive(Clone, Copy, Debug, PartialEq, Eq)]
 pub enum Place {
     /// Nothing that can be reached.
@@ -86,10 +87,10 @@ pub enum Place {
     Filled,
 }
 
-/// Which query comes next, once it is known what exists at a path.
+/// What is asked of the operating system next, once it is known what exists at a path.
 #[derive(Clone, Copy, Debug, PartialEq, Eq)]
 pub enum Next {
-    /// None: this was found.
+    /// Nothing: this is the result.
     Nothing(FileState),
     /// Whether a link is there.
     Link,
@@ -111,7 +112,8 @@ fn missing_by(kind: ErrorKind) -> Missing
     }
 }
 
-/// What exists at a path, by the answer of the operating system.
+/// What exists at a path, by the answer `found` of the operating system: what it leads to, or why nothing
+/// can be reached.
 pub fn place_of(found: Result<Found, ErrorKind>) -> Place
     ensures { result ≡ spec.place_of found }
 {
@@ -126,8 +128,9 @@ pub fn place_of(found: Result<Found, ErrorKind>) -> Place
     }
 }
 
-/// Which query comes next, by what exists at a path, whether SQLite reads the name otherwise than as a path,
-/// and whether the command makes a missing file (`is_made`).
+/// What is asked next, once `place` exists at a path. `is_no_path`: SQLite reads the name otherwise than as
+/// a path. `is_made`: the command makes a missing file. An empty file is then opened even if the name is no
+/// path.
 pub fn next_at(place: Place, is_no_path: bool, is_made: bool) -> Next
     ensures next { result ≡ spec.next_at place is_no_path is_made }
     ensures may { MayAsk is_no_path is_made result }
@@ -143,8 +146,8 @@ pub fn next_at(place: Place, is_no_path: bool, is_made: bool) -> Next
     }
 }
 
-/// What is at a path where nothing can be reached, for a command that makes the file, by whether a link is
-/// there.
+/// What is at a path where no file exists, for a command that makes the file: a link to nothing if
+/// `is_link`, else nothing.
 pub fn unmade_by(is_link: bool) -> FileState
     ensures { result ≡ spec.unmade_by is_link }
 {
@@ -155,7 +158,8 @@ pub fn unmade_by(is_link: bool) -> FileState
     }
 }
 
-/// Why a file can't be opened, by the error of opening it for reading, if there was one.
+/// Why a file can't be opened, by the error `unread` of opening it for reading, if there was one. `None`
+/// for an error other than a missing right: the next attempts to open the file decide.
 pub fn reading_denial(unread: Option<ErrorKind>) -> Option<Denial>
     ensures { result ≡ spec.reading_denial unread }
 {
@@ -165,7 +169,8 @@ pub fn reading_denial(unread: Option<ErrorKind>) -> Option<Denial>
     }
 }
 
-/// Why a file can't be opened, by the error of opening it for writing, if there was one.
+/// Why a file can't be opened, by the error `unwritten` of opening it for writing, if there was one. `None`
+/// for an error that says nothing about rights: opening the file as SQLite does decides.
 pub fn writing_denial(unwritten: Option<ErrorKind>) -> Option<Denial>
     ensures { result ≡ spec.writing_denial unwritten }
 {
@@ -176,11 +181,12 @@ pub fn writing_denial(unwritten: Option<ErrorKind>) -> Option<Denial>
     }
 }
 
-/// How a file begins, by its first bytes, or by the kind of the error of reading them.
-pub fn start_of(first: Result<[u8; 16], ErrorKind>) -> Start
-    ensures { result ≡ spec.start_of first }
+/// How a file begins, by its first 16 bytes `head`, or by the kind of the error of opening or reading it. A
+/// file that is shorter is no database.
+pub fn start_of(head: Result<[u8; 16], ErrorKind>) -> Start
+    ensures { result ≡ spec.start_of head }
 {
-    match first {
+    match head {
         Ok(bytes) if bytes.as_slice() == MAGIC.as_slice() => Start::Database,
         Ok(_) | Err(ErrorKind::UnexpectedEof) => Start::Other,
         Err(_) => Start::Unread,

@@ -8,8 +8,8 @@ use Rattle.db_file.specs.Committing.{IsUnread, NamesSize, faults_of, image_of, l
 use Rattle.db_file.proofs.CommitLemmas.{none_named, over_read, size_named, unread}
 use Rattle.db_file.proofs.committing.open_pager.Goals as goal
 
-pub returns-in-Ok-clause-over : goal.returns-in-Ok-clause-over
-returns-in-Ok-clause-over g c =
+pub returns-in-Ok-clause-fresh : goal.returns-in-Ok-clause-fresh
+returns-in-Ok-clause-fresh g c =
     let old = c.args.files in
     let read = c.probe_page_size.new.files in
     let was = image_of g.D.Disk old in

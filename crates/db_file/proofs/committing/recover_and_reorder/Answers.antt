@@ -52,8 +52,8 @@ returns-clause-crash g c =
     (leaves_ordered it c.recover.new.self new c.recover.ensures.size c.in_ok-recover.ensures.clean
     c.in_ok-recover.ensures.found c.reorder_first_page.ensures.stays c.recover.ensures.crash c.reorder_first_page.ensures.crash)
 
-pub returns-clause-none : goal.returns-clause-none
-returns-clause-none g c =
+pub returns-clause-unreadable : goal.returns-clause-unreadable
+returns-clause-unreadable g c =
     let it = c.args.pager.now in
     let new = c.reorder_first_page.new.pager in
     subst (λ n. IsUnreadable n (image it) → (left : Image) → (state new).may_leave left → (state it).may_leave left)
