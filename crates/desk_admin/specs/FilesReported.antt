@@ -1,4 +1,4 @@
--- FilesReported: what an administrator is shown of a file, and what is copied of it.
+-- FilesReported: what `check` reports of a file, and what `copy` copies of it.
 use Rattle.std.specs.Prelude.{◌≡◌, ℕ, List, [], length, Option, Result, Ok, Err, ◌⊎◌, None}
 use Rattle.std.specs.Option.{IsSomeAnd}
 use Rattle.sqlite_disk.specs.declared.Disk as disk
@@ -35,13 +35,15 @@ use Rattle.host_files.specs.Naming.{Follows, HasFailedStep, IsNamed, IsUnnamed, 
 use Rattle.host_files.specs.Reporting.{Reports}
 use Rattle.desk_admin.specs.Unopened.{open_failure, FailsOver, IsInMemory, IsUnreadFor}
 
--- why is reported, and then the line of the failure, with which it ends
+-- a command fails: first the cause is reported, perhaps with no text; then the line of the error code f is
+-- printed, and the exit status is that of f
 pub record FailsReporting (f : ErrorCode) (end : Ending) : Type 0 where
   pub between : Option (List ℕ)
   pub cause : Reports (course end.before between)
   pub fails : FailsWith f (record end { before = between })
 
--- the numbers of operators, plans, rows of spans and cells are those of the content
+-- the counts of the operators, plans, live plans, spans and cells in the statistics are those of the content
+-- w
 pub record ReportsHoldings (file : CheckedFile) (w : World) : Type 0 where
   pub operators : file.operators ≡ length w.operators
   pub plans : file.plans ≡ length w.plans
@@ -51,37 +53,38 @@ pub record ReportsHoldings (file : CheckedFile) (w : World) : Type 0 where
   pub most_cells : IsMostCells w.plans file.most_cells
 
 module _ {D : Type 0} {g : disk.Ghosts D} (image : Image) where
-  -- what is reported of files that held this, as a connection read it, which leaves their rows
+  -- a connection (left) read files that held the image, and left their content; the statistics are those of
+  -- it
   pub record IsReadAs (left : Held (FileStore D g)) (file : CheckedFile) : Type 0 where
     pub w : World
     pub reported : ReportsHoldings file w
     pub looks : LooksIn image left file.is_old w
 
-  -- why files are not read: memory ran out; or what the connection showed that read them, or that they were
-  -- not opened
+  -- why files that held the image can't be read: memory ran out before they were opened; or they were
+  -- refused, for a fault that they have
   abbrev pub FailsToRead : OpenError D g → Type 0
   FailsToRead it = IsUnreadFor it opening.OutOfMemory
       ⊎ FailsOver (λ files. AreNotRead image files.fault files.connection) it
 
-  -- why no content is reported of a database: it is in memory, or its files are not read
+  -- why no statistics of a database are reported: it is in memory, or its files can't be read
   abbrev pub FailsToLook : Database → OpenError D g → Type 0
   FailsToLook database it = (IsInMemory database × IsUnreadFor it opening.Store) ⊎ FailsToRead it
 
-  -- a failure is reported, and nothing is printed
+  -- the statistics can't be had: the cause and the error code are reported, and nothing is printed
   pub record IsUnreported (database : Database) (end : Ending) (it : OpenError D g)
       (writes : Course (Option (List ℕ))) : Type 0 where
     pub look : FailsToLook database it
     pub reported : FailsReporting it.failure end
     pub unprinted : writes.after ≡ writes.before
 
-  -- what they hold is reported
+  -- the statistics of the files are printed
   pub record IsFileReported (end : Ending) (left : Held (FileStore D g)) (writes : Course (Option (List ℕ)))
       : Type 0 where
     pub file : CheckedFile
     pub read : IsReadAs left file
     pub printed : IsTextPrinted (checked_line file) end writes.before writes.after
 
-  -- what they hold is reported, or a failure is
+  -- the result of `check`: the statistics are printed, or the failure is reported
   abbrev pub IsChecked :
       Database → Ending → Result (Held (FileStore D g)) (OpenError D g) → Course (Option (List ℕ)) → Type 0
   IsChecked database end (Ok left) writes = IsFileReported end left writes
@@ -89,18 +92,18 @@ module _ {D : Type 0} {g : disk.Ghosts D} (image : Image) where
 
 -- ---- a copy
 
--- nothing was asked of files, or they were not refused, and this is the failure
+-- the error has the code f, and no refused or unclosed files
 pub record FailsUntried {R M U : Type 0} (f : ErrorCode) (it : CopyError R M U) : Type 0 where
   pub failure : it.failure ≡ f
   pub unread : it.unread ≡ None
   pub unmade : it.unmade ≡ None
   pub unclosed : it.unclosed ≡ None
 
--- why files were not copied
+-- why files of a disk were not copied to files of another
 abbrev pub CopyEnd : {D E : Type 0} → disk.Ghosts D → disk.Ghosts E → Type 0
 CopyEnd {D} {E} g k = CopyError (FilesFault D g) (FilesFault E k) (CheckpointError E k)
 
--- this fault of files is the failure
+-- the error is that of this fault: its code, and the refused files, either those to be copied or the new ones
 abbrev pub FailsBy :
     {D E U : Type 0} {g : disk.Ghosts D} {k : disk.Ghosts E} → CopyFault D E g k
     → CopyError (FilesFault D g) (FilesFault E k) U → Type 0
@@ -110,37 +113,39 @@ FailsBy (copy.Unmade files source) it =
     (it.failure ≡ open_failure files.fault) × IsSomeAnd it.unmade (λ s. s.value ≡ files)
 
 module _ {D E : Type 0} {g : disk.Ghosts D} {k : disk.Ghosts E} (image other : Image) where
-  -- the files refuse it
+  -- the source files, which held the image, or the new files, which held the other, were refused
   pub record FailsRefused (it : CopyEnd g k) : Type 0 where
     pub fault : CopyFault D E g k
     pub by : FailsBy fault it
     pub are : AreNotCopied image other fault
 
-  -- a store was made in the new files, and can't be closed
+  -- a store was made in the new files, and can't be closed: the error code is `Store`
   pub record FailsUnclosed (it : CopyEnd g k) : Type 0 where
     pub held : Held (FileStore E k)
     pub failure : it.failure ≡ failure.Store
     pub made : IsMadeIn other held
     pub left : IsSomeAnd it.unclosed (IsLeftUnclosed held)
 
+  -- one or the other
   abbrev pub FailsAtFiles : CopyEnd g k → Type 0
   FailsAtFiles it = FailsRefused it ⊎ FailsUnclosed it
 
-  -- a database in memory is not copied; memory ran out; a step of its folders failed; or the files refuse it
+  -- why nothing is copied: the database is in memory; memory ran out; a step in the folder failed; or files
+  -- were refused or couldn't be closed
   abbrev pub FailsToCopy : Database → Steps → CopyEnd g k → Type 0
   FailsToCopy database steps it = (IsInMemory database × FailsUntried failure.Store it)
       ⊎ (FailsUntried failure.Memory it
       ⊎ ((HasFailedStep steps × FailsUntried failure.Store it) ⊎ FailsAtFiles it))
 
-  -- a failure is reported, and nothing is printed
+  -- nothing is copied: the cause and the error code are reported, and nothing is printed
   pub record IsUncopied (database : Database) (o : AdminOutside) (it : CopyEnd g k) : Type 0 where
     pub why : FailsToCopy database o.steps it
     pub reported : FailsReporting it.failure o.end
     pub unprinted : o.writes.after ≡ o.writes.before
 
 module _ {D E : Type 0} {g : disk.Ghosts D} (k : disk.Ghosts E) (image other : Image) where
-  -- a connection to files that held this leaves them, and new files, whose WAL is empty, have their content:
-  -- a store of it was made there and closed
+  -- a connection read files that held the image, and left their content w. A store of w was made in new
+  -- files, which held the other before, and closed: these files have w now
   pub record IsCopyMade (copies : Held (FileStore D g) × (Files E × DbStats)) : Type 0 where
     pub w : World
     pub held : Held (FileStore E k)
@@ -150,30 +155,29 @@ module _ {D E : Type 0} {g : disk.Ghosts D} (k : disk.Ghosts E) (image other : I
     pub settled : IsSettledAt over_files held w
     pub closed : AreClean k copies.1.0.log copies.1.0.db → IsClosedInto held copies.1.0
 
--- the connection to files that were copied, the new files and what was counted; or why they were not copied
+-- the connection to the files that were copied, the new files and the statistics; or why nothing was copied
 abbrev pub CopyOutcome : {D E : Type 0} → disk.Ghosts D → disk.Ghosts E → Type 0
 CopyOutcome {D} {E} g k = Result (Held (FileStore D g) × (Files E × DbStats)) (CopyEnd g k)
 
 module _ {D E : Type 0} {g : disk.Ghosts D} {k : disk.Ghosts E} (image other : Image) where
-  -- how much was copied is reported; or a failure is
+  -- the result of `copy`: the files are copied, and the counts are printed; or the failure is reported
   abbrev pub IsCopied : Database → AdminOutside → CopyOutcome g k → Type 0
   IsCopied database o (Ok copies) = IsCopyMade k image other copies
       × IsTextPrinted (copied_line copies.1.1.operators copies.1.1.plans) o.end o.writes.before o.writes.after
   IsCopied database o (Err it) = IsUncopied image other database o it
 
--- why nothing is copied, once the files were asked for: they refused it; or a step failed, and alone is
--- reported
+-- the error of a copy once its files were written: that of `copied`; or `Store`, since a step in the folder
+-- failed afterwards
 abbrev pub IsAsCopied : {A R M U : Type 0} → Result A (CopyError R M U) → Steps → CopyError R M U → Type 0
 IsAsCopied copied steps it = (copied ≡ Err it) ⊎ (HasFailedStep steps × FailsUntried failure.Store it)
 
--- what is copied gets its name; or no file gets one, or the file gets its own, whole, and its folder can't be
--- synced
+-- if the copy succeeded, the new file gets its final name and the folder is synced; else no file gets a name,
+-- or the new file gets its name and the folder can't be synced
 abbrev pub IsNamedNow : {A B : Type 0} → Result A B → List ℕ → Steps → Type 0
 IsNamedNow (Ok copies) to steps = Follows steps (named_steps to (Synced to))
 IsNamedNow (Err it) to steps = IsUnnamed [] to steps
 
--- what is copied has got its name, and there was nothing at its names; or no file got a name, or the file got
--- its own, whole, and its folder can't be synced
+-- the same for the whole command: before, nothing is found at the names of the new file
 abbrev pub IsNamedIf : {A B : Type 0} → Result A B → List ℕ → Steps → Type 0
 IsNamedIf (Ok copies) to steps = IsNamed to steps
 IsNamedIf (Err it) to steps = IsUnnamed (free_steps to) to steps

@@ -1,4 +1,4 @@
--- Read first: Unopened, Causes, FilesReported, Scratch copies, Reordering.
+-- Read first: Unopened, Causes, FilesReported, ScratchCopies, Reordering.
 pub mod Unopened
 pub mod Causes
 pub mod AdminOutside

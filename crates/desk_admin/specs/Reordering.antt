@@ -20,16 +20,17 @@ use Rattle.host_files.specs.Reporting.{IsWrittenIfRoom, Reports, line_of}
 use Rattle.host_files.specs.Naming.{Failed, Follows, Ordered, Step, Steps}
 use Rattle.desk_host.specs.Scratch.{AreRemoved, IsUntwinned, making, scratch_of}
 
--- what is reported of a file that is reordered
+-- what is reported once a file was reordered
 abbrev pub reordered_text : List ℕ
 reordered_text = codes "its tables are put in a desk's own order"
 
--- a file is reordered, or that can't be done
+-- a file is reordered; or that step failed, and the error code is `Store`
 abbrev pub IsOrderedOr : List ℕ → Result ⊤ ErrorCode → Steps → Type 0
 IsOrderedOr path (Ok done) steps = Follows steps (Ordered path ∷ [])
 IsOrderedOr path (Err f) steps = (f ≡ failure.Store) × Follows steps (Failed ∷ [])
 
--- so, if its scratch copy was admitted; else nothing is asked of it, and this is the failure
+-- the same if its scratch copy was admitted; else nothing is done in the folder, and the error code is that
+-- of the refused scratch copy
 abbrev pub IsOrderedIf : List ℕ → Result ⊤ ErrorCode → Result ⊤ ErrorCode → Steps → Type 0
 IsOrderedIf path (Ok it) done steps = IsOrderedOr path done steps
 IsOrderedIf path (Err f) done steps = (done ≡ Err f) × (steps.after ≡ steps.before)
@@ -41,7 +42,7 @@ module _ {D : Type 0} {g : disk.Ghosts D} (image : Image) (takes : Bool) where
     pub read : IsReadAs image left file
     pub taken : takes ≡ false → file.is_old ≡ false
 
-  -- it was read as a valid database, and the command doesn't accept it, as it has rows of schema 1
+  -- a scratch copy was read as a valid database of schema 1, and the command doesn't accept that
   pub record IsTooOld (left : Held (FileStore D g)) (f : ErrorCode) : Type 0 where
     pub file : CheckedFile
     pub read : IsReadAs image left file
@@ -49,7 +50,8 @@ module _ {D : Type 0} {g : disk.Ghosts D} (image : Image) (takes : Bool) where
     pub old : file.is_old ≡ true
     pub failure : f ≡ failure.OldSchema
 
-  -- a scratch copy is admitted, or not, by what it showed
+  -- a scratch copy is admitted or refused, by what was read in it: a database that the command accepts; one
+  -- of schema 1 that it doesn't accept; or no valid database, with the error code of that
   abbrev pub IsAdmitted :
       Result ⊤ ErrorCode → Result (Held (FileStore D g)) (OpenError D g) → Type 0
   IsAdmitted (Ok it) (Ok left) = IsTaken left
@@ -57,7 +59,8 @@ module _ {D : Type 0} {g : disk.Ghosts D} (image : Image) (takes : Bool) where
   IsAdmitted admitted (Err unread) = FailsToRead image unread × (admitted ≡ Err unread.failure)
 
 module _ {D : Type 0} {g : disk.Ghosts D} (image : Image) (path : List ℕ) (takes : Bool) where
-  -- a scratch copy is admitted or not, and is removed; then the file is reordered, if it was
+  -- the scratch copy of the file at the path is admitted or refused, then removed; then the file is
+  -- reordered, if the scratch copy was admitted
   pub record IsOrderedByScratch (done : Result ⊤ ErrorCode)
       (judged : Result (Held (FileStore D g)) (OpenError D g)) (steps : Steps) : Type 0 where
     pub admitted : Result ⊤ ErrorCode
@@ -66,24 +69,26 @@ module _ {D : Type 0} {g : disk.Ghosts D} (image : Image) (path : List ℕ) (tak
     pub removed : AreRemoved (scratch_of path) (course steps.before between)
     pub ordered : IsOrderedIf path admitted done (course between steps.after)
 
-  -- so, once it was made of the file
+  -- the scratch copy is made of the file, and then all of this follows
   pub record WasJudged (done : Result ⊤ ErrorCode)
       (judged : Result (Held (FileStore D g)) (OpenError D g)) (steps : Steps) : Type 0 where
     pub from : Option (List Step)
     pub made : Follows (course steps.before from) (making path (scratch_of path) true)
     pub ordered : IsOrderedByScratch done judged (course from steps.after)
 
-  -- what is done of a file in non-canonical order: so, or there is no scratch copy
+  -- what is done with a file in non-canonical order: all of this; or no scratch copy can be made, and the
+  -- error code says why
   abbrev pub IsReordered :
       Result ⊤ ErrorCode → Option (Result (Held (FileStore D g)) (OpenError D g)) → Steps → Type 0
   IsReordered done (Some judged) steps = WasJudged done judged steps
   IsReordered done None steps = IsErrAnd done (λ f. IsLineBreakdown f × IsUntwinned (scratch_of path) steps f)
 
-  -- nothing is done of any other
+  -- nothing is done with a file whose tables are in canonical order
   abbrev pub IsLeftAlone :
       Result ⊤ ErrorCode → Option (Result (Held (FileStore D g)) (OpenError D g)) → Steps → Type 0
   IsLeftAlone done judged steps = (done ≡ Ok tt) × (judged ≡ None) × (steps.after ≡ steps.before)
 
+  -- one or the other, by how the file has to be read
   abbrev pub IsReorderedIf :
       ReadMode → Result ⊤ ErrorCode → Option (Result (Held (FileStore D g)) (OpenError D g)) → Steps → Type 0
   IsReorderedIf way.OtherOrder done judged steps = IsReordered done judged steps
@@ -93,7 +98,7 @@ module _ {D : Type 0} {g : disk.Ghosts D} (image : Image) (path : List ℕ) (tak
 abbrev pub reordered_line : List ℕ → List ℕ
 reordered_line path = line_of path reordered_text
 
--- of a file that was reordered that is reported, of one that is left nothing, and else why
+-- what is reported: that the file was reordered; nothing, if it was left alone; or why it failed
 abbrev pub IsReorderReported :
     {X : Type 0} → List ℕ → Result ⊤ ErrorCode → Option X → Course (Option (List ℕ)) → Type 0
 IsReorderReported path (Ok done) None writes = writes.after ≡ writes.before

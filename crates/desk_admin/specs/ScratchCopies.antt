@@ -30,16 +30,17 @@ use Rattle.desk_host.specs.Ways.{is_mended, untested}
 
 -- ---- what is reported
 
+-- the words for what is known of the rows of a file with wrong checksums
 abbrev pub rows_text : Rows → List ℕ
 rows_text rows.OfADesk = codes "are a desk's"
 rows_text rows.OfNoDesk = codes "are no desk's"
 rows_text rows.TestedAlone = codes "alone were tested"
 
--- the line that reports pages with wrong checksums, and what their rows are
+-- the line that reports how many pages of a file have wrong checksums, and what is known of its rows
 unfoldable pub bad_checksums_line : List ℕ → ℕ → List ℕ → List ℕ
-bad_checksums_line path pages text =
+bad_checksums_line path pages about_rows =
     codes "uss_desk: " ++ (path ++ (codes ": " ++ (decimal pages
-    ++ (codes " pages without their sums, as sqlite3 leaves them; the rows " ++ (text ++ codes "\n")))))
+    ++ (codes " pages without their sums, as sqlite3 leaves them; the rows " ++ (about_rows ++ codes "\n")))))
 
 abbrev pub rows_line : List ℕ → ℕ → Rows → List ℕ
 rows_line path pages it = bad_checksums_line path pages (rows_text it)
@@ -47,19 +48,20 @@ rows_line path pages it = bad_checksums_line path pages (rows_text it)
 abbrev pub order_line : List ℕ → List ℕ
 order_line path = line_of path order_text
 
--- what is reported of a file that is read in a way, by a scratch copy that is a valid database
+-- the line that reports what is wrong with a file whose scratch copy is a valid database, by the way in which
+-- it was read: none if nothing is wrong but its WAL
 abbrev pub taken_line : List ℕ → ReadMode → Option (List ℕ)
 taken_line path way.Itself = None
 taken_line path way.Damaged = None
 taken_line path (way.BadChecksums pages) = Some (rows_line path pages rows.OfADesk)
 taken_line path way.OtherOrder = Some (order_line path)
 
--- so, if there is a line
+-- the line is written, if there is one: whole, or cut off by a failed write, or not at all without memory
 abbrev pub IsNotedIf : Option (List ℕ) → Course (Option (List ℕ)) → Type 0
 IsNotedIf None writes = writes.after ≡ writes.before
 IsNotedIf (Some line) writes = IsWrittenIfRoom line writes
 
--- there is no scratch copy, which is reported, and nothing is printed
+-- no scratch copy can be made: the cause and the error code are reported, and nothing is printed
 pub record FailsUntwinned (scratch : List ℕ) (o : AdminOutside) : Type 0 where
   pub failure : ErrorCode
   pub is : IsLineBreakdown failure
@@ -67,29 +69,31 @@ pub record FailsUntwinned (scratch : List ℕ) (o : AdminOutside) : Type 0 where
   pub reported : FailsReporting failure o.end
   pub unprinted : o.writes.after ≡ o.writes.before
 
--- the rows of a file are invalid, which is reported
+-- it is reported that the rows of a file with wrong checksums are invalid, and the error code is `Store`
 pub record FailsNoted (path : List ℕ) (pages : ℕ) (end : Ending) : Type 0 where
   pub between : Option (List ℕ)
   pub noted : IsWrittenIfRoom (rows_line path pages rows.OfNoDesk) (course end.before between)
   pub fails : FailsWith failure.Store (record end { before = between })
 
--- by why they could not be read: running out of memory says nothing about them
+-- what is reported if the scratch copy of a file with wrong checksums is refused with the error code f: only
+-- `Memory` if memory ran out, which says nothing about the rows; else that the rows are invalid
 abbrev pub AreRowsRefused : List ℕ → ℕ → ErrorCode → Ending → Type 0
 AreRowsRefused path pages f end = ((f ≡ failure.Memory) × FailsWith failure.Memory end)
     ⊎ ((f ≢ failure.Memory) × FailsNoted path pages end)
 
--- so, if its pages have wrong checksums; else why is reported, and then this failure
+-- what is reported if a scratch copy is refused with the error code f: the above for a file with wrong
+-- checksums; for any other file the cause, and then f
 abbrev pub IsScratchRefused : List ℕ → ReadMode → ErrorCode → Ending → Type 0
 IsScratchRefused path way.Itself f end = FailsReporting f end
 IsScratchRefused path way.Damaged f end = FailsReporting f end
 IsScratchRefused path (way.BadChecksums pages) f end = AreRowsRefused path pages f end
 IsScratchRefused path way.OtherOrder f end = FailsReporting f end
 
--- ---- a look
+-- ---- check
 
 module _ {D : Type 0} {g : disk.Ghosts D} (image : Image) (path : List ℕ) (way : ReadMode) where
-  -- the rows of a file are those of a valid database, and what is reported of its way is reported, and what
-  -- they are
+  -- the scratch copy was read as a valid database: what is wrong with the file is reported, and then the
+  -- statistics are printed
   pub record IsTakenByRows (left : Held (FileStore D g)) (end : Ending) (writes : Course (Option (List ℕ)))
       : Type 0 where
     pub between : Option (List ℕ)
@@ -99,37 +103,39 @@ module _ {D : Type 0} {g : disk.Ghosts D} (image : Image) (path : List ℕ) (way
     pub printed : IsTextPrinted (checked_line file) (record end { before = between })
         writes.before writes.after
 
-  -- they can't be read as those of a valid database, and nothing is printed
+  -- the scratch copy can't be read as a valid database: this is reported, and nothing is printed
   pub record IsRefusedByRows (it : OpenError D g) (end : Ending) (writes : Course (Option (List ℕ)))
       : Type 0 where
     pub look : FailsToRead image it
     pub reported : IsScratchRefused path way it.failure end
     pub unprinted : writes.after ≡ writes.before
 
-  -- the one or the other, by what the scratch copy showed
+  -- one or the other, by the result of reading the scratch copy
   abbrev pub IsJudged :
       Result (Held (FileStore D g)) (OpenError D g) → Ending → Course (Option (List ℕ)) → Type 0
   IsJudged (Ok left) end writes = IsTakenByRows left end writes
   IsJudged (Err it) end writes = IsRefusedByRows it end writes
 
+  -- the same, or no scratch copy can be made
   abbrev pub IsJudgedIf : Option (Result (Held (FileStore D g)) (OpenError D g)) → AdminOutside → Type 0
   IsJudgedIf None o = FailsUntwinned (scratch_of path) o
   IsJudgedIf (Some judged) o = IsJudged judged o.end o.writes
 
--- a scratch copy is made of a file, and removed once it was read
+-- the scratch copy is made of the source file, repaired if `mended`, and removed once it was read
 pub record WasScratch (source scratch : List ℕ) (mended : Bool) (steps : Steps) : Type 0 where
   pub from : Option (List Step)
   pub made : Follows (course steps.before from) (making source scratch mended)
   pub removed : AreRemoved scratch (course from steps.after)
 
--- ---- a copy
+-- ---- copy
 
--- that the checksums were not tested is reported, if the copy of such a file was made
+-- if a file with wrong checksums was copied (the status is 0), it is reported that only its rows were tested;
+-- else nothing is reported
 abbrev pub IsTestReported : List ℕ → ReadMode → ℕ → Course (Option (List ℕ)) → Type 0
 IsTestReported path way status writes = MatchOption (untested way status) (writes.after ≡ writes.before)
     (λ pages. IsWrittenIfRoom (rows_line path pages rows.TestedAlone) writes)
 
--- a database in memory has no file
+-- a database in memory has no file to copy: the error code is `Store`, and nothing is done or printed
 pub record HasNoFile (database : Database) (o : AdminOutside) : Type 0 where
   pub is : IsInMemory database
   pub fails : FailsWith failure.Store o.end
@@ -139,7 +145,8 @@ pub record HasNoFile (database : Database) (o : AdminOutside) : Type 0 where
 module _ {D E : Type 0} {g : disk.Ghosts D} {k : disk.Ghosts E} (image other : Image) (words : CopyWords)
     (way : ReadMode)
   where
-    -- a scratch copy is made of the file that the words name; it is copied, as a file is; and it is removed
+    -- a scratch copy is made of the database file, beside the new file; it is copied as `copy` copies a file;
+    -- it is removed; and if the copy succeeded, what was not tested is reported
     pub record IsCopiedByScratch (copied : CopyOutcome g k) (o : AdminOutside) : Type 0 where
       pub source : List ℕ
       pub from : Option (List Step)
@@ -155,7 +162,8 @@ module _ {D E : Type 0} {g : disk.Ghosts D} {k : disk.Ghosts E} (image other : I
       pub removed : AreRemoved (scratch_of (string_bytes words.to)) (course until o.steps.after)
       pub noted : IsTestReported source way o.end.status (course reported o.end.now)
 
-    -- so; or there is no scratch copy, or no file, which is reported, and nothing is printed or copied
+    -- all of this; or no scratch copy can be made, or the database has no file: that is reported, and nothing
+    -- is printed or copied
     abbrev pub IsCopiedByScratchIf : Option (CopyOutcome g k) → AdminOutside → Type 0
     IsCopiedByScratchIf None o =
         FailsUntwinned (scratch_of (string_bytes words.to)) o ⊎ HasNoFile words.database o

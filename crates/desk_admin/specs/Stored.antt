@@ -1,4 +1,4 @@
--- Stored: how large a file is, and a copy whose store was made and isn't closed.
+-- Stored: how large a file is, and a copy whose new store is still open.
 use Rattle.std.specs.Prelude.{ℕ, Result, Ok, Err}
 use Rattle.std.specs.declared.io.ErrorKind.{ErrorKind}
 use Rattle.sqlite_disk.specs.declared.Disk as disk
@@ -13,13 +13,13 @@ use Rattle.desk_tables.specs.Store.{Shown}
 use Rattle.table_load.specs.declared.looking.DbStats.{DbStats}
 use Rattle.host_files.specs.declared.files.Found.{Found}
 
--- how many bytes were found at a path; none if nothing can be reached
+-- the size in bytes of what was found at a path; 0 if nothing can be reached
 abbrev pub found_size : Result Found ErrorKind → ℕ
 found_size (Ok found) = found.len
 found_size (Err kind) = 0
 
--- a connection to files that held this leaves them, and a store of what they hold, with its numbers, was made
--- in new files that held the other
+-- a connection read files that held the image, and left their content; a store of that content was made in
+-- new files, which held the other before; and the statistics are those of the content
 pub record IsStoredAs {D E : Type 0} {g : disk.Ghosts D} {k : disk.Ghosts E} (image other : Image)
     (copied : Held (FileStore D g) × (Shown (FileStore E k) × DbStats)) : Type 0 where
   pub counted : AreHoldingsOf copied.1.1 copied.1.0.world

@@ -1,5 +1,5 @@
-//! Reports to the administrator why a database can't be opened. Clauses say that something is reported, and
-//! not what.
+//! Reports to the administrator why a database can't be opened. The clauses say that text is appended to
+//! `errors`, perhaps none, and not what it says.
 
 ghost use Rattle.std.specs.Prelude.{◌≡◌, IfErr, IfOk, None};
 ghost use Rattle.desk_program.specs.Outside.{bytes_written};
@@ -19,7 +19,8 @@ use sqlite::Unknown;
 use sqlite_disk::Disk;
 use std::io::Write;
 
-/// Reports why a database can't be opened, for a command that makes a missing file.
+/// Reports to `errors` why a database can't be opened (`failure`), for a command that makes a missing file: a
+/// missing file is no cause then. A failed write and running out of memory are ignored.
 #[tactic(auto, using(host_files::proofs::lemmas::Reporting::reports_nothing))]
 pub fn report_made<E: Write>(
     host: LocalHost<'_>,
@@ -37,8 +38,8 @@ pub fn report_made<E: Write>(
     }
 }
 
-/// Reports why a database can't be opened, for a command that needs its file to exist. Nothing is reported of
-/// a database in memory.
+/// Reports to `errors` why a database can't be opened (`failure`), for a command that needs its file to
+/// exist. Nothing is reported of a database in memory. A failed write and running out of memory are ignored.
 #[tactic(auto, using(host_files::proofs::lemmas::Reporting::reports_nothing))]
 pub fn report_database<E: Write>(
     host: LocalHost<'_>,
@@ -54,8 +55,9 @@ pub fn report_database<E: Write>(
     }
 }
 
-/// Reports why the file at `path` can't be opened: `uss_desk: NAME: CAUSE`. Only `Store`, `NotADesk` and
-/// `OldSchema` have a cause to report. A failed write is ignored.
+/// Reports to `errors` why the file at `path` can't be opened: `uss_desk: NAME: CAUSE`, with the given
+/// `name`. Of the error codes (`failure`), only `Store`, `NotADesk` and `OldSchema` have a cause to report. A
+/// failed write and running out of memory are ignored.
 #[tactic(auto, using(host_files::proofs::lemmas::Reporting::reports_nothing))]
 pub fn report_cause<E: Write>(
     host: LocalHost<'_>,
@@ -81,7 +83,8 @@ pub fn report_cause<E: Write>(
     report_of(host.alloc(), name, cause, errors);
 }
 
-// Why a file is no valid database. It is read once more to find the invalid part.
+// Why the file at `path` is no valid database. It is read once more to find its table order or the invalid
+// part.
 fn desk_cause(host: LocalHost<'_>, path: &str) -> &'static str
     ensures { IsNoDeskText result.now }
 {
@@ -91,7 +94,8 @@ fn desk_cause(host: LocalHost<'_>, path: &str) -> &'static str
     named_cause(part_of(part_at(host.rt, path, Unknown)))
 }
 
-// The invalid part that was found in a file; `None` if the file couldn't be opened. Its connection is closed.
+// The invalid part that was found in a file, by the result of `part_at` (`named`); `None` if none was found
+// or the file couldn't be opened. The connection to it is closed.
 fn part_of<D: Disk + Drop>(named: Result<Named<D>, NotOpened<D>>) -> Option<InvalidPart>
     ensures named { IfOk named (λ it. result ≡ it.part) }
     ensures none { IfErr named (λ _. result ≡ None) }
@@ -102,17 +106,19 @@ fn part_of<D: Disk + Drop>(named: Result<Named<D>, NotOpened<D>>) -> Option<Inva
     }
 }
 
-// Why a file is no valid database, in words, by the invalid part that was found, if any.
-fn named_cause(named: Option<InvalidPart>) -> &'static str
-    ensures { result.now ≡ spec.named_text named }
+// Why a file is no valid database, in words, by the invalid part that was found (`found`). If none was found,
+// the words list what may be wrong.
+fn named_cause(found: Option<InvalidPart>) -> &'static str
+    ensures { result.now ≡ spec.named_text found }
 {
-    match named {
+    match found {
         Some(part) => part_cause(part),
         None => "no table, other tables than a desk's, or rows of no content",
     }
 }
 
-// Why a file with this invalid part is no valid database, in words.
+// Why a file with this invalid part is no valid database, in words that name the table. Rows "of no content"
+// are rows that no desk writes.
 fn part_cause(part: InvalidPart) -> &'static str
     ensures { result.now ≡ spec.part_text part }
 {

@@ -38,14 +38,15 @@ use std::alloc::{AllocError, Global};
 use std::io::{ErrorKind, Write};
 use std::snapshot::Snapshot;
 
-/// A connection with which a file was read. `F` stands for the content that the file had before.
+/// A connection with which a file was read. `F` is a type that stands for the content of the file before.
 pub type ReadConnection<F> = Connection<FileStore<FileFrom<F>>>;
 
-/// The result of a copy from files of a disk `D` to files of `N`: the connection to the former, and the new
-/// files with their statistics.
+/// The result of a copy from files of a disk `D` to files of a disk `N`: the connection to the former, and
+/// the new files with the statistics of what was copied.
 pub type Copies<D, N> = (Connection<FileStore<D>>, (Files<N>, DbStats));
 
-/// Why nothing was copied. The files that were refused are closed; only clauses read the snapshots of them.
+/// Why nothing was copied. `R` is the error of the source files, `M` that of the new ones, and `U` that of
+/// closing these. Refused files are closed; their snapshots exist only for the contracts.
 #[derive(Drop)]
 pub struct CopyError<R, M, U: Drop> {
     /// The error code with which the command ends.
@@ -58,11 +59,11 @@ pub struct CopyError<R, M, U: Drop> {
     pub unclosed: Option<U>,
 }
 
-/// Why files of a disk `D` were not copied to files of `N`.
+/// Why files of a disk `D` were not copied to files of a disk `N`.
 pub type CopyEnd<D, N> = CopyError<FilesFault<D>, FilesFault<N>, CheckpointError<N>>;
 
 impl<D: Disk + Drop, N: Disk + Drop> CopyError<FilesFault<D>, FilesFault<N>, CheckpointError<N>> {
-    // An error without refused files: none were opened, or the new ones can't be given their names.
+    // An error with no refused files: none were opened, or the new ones can't be given their names.
     fn untried(failure: ErrorCode) -> CopyEnd<D, N>
         ensures { FailsUntried failure result }
     {
@@ -87,7 +88,7 @@ impl<D: Disk + Drop, N: Disk + Drop> From<AllocError>
     }
 }
 
-// The error of a copy whose source or new files were refused.
+// The error of a copy that was `refused`: for its source files (`Unread`) or for its new files (`Unmade`).
 fn refused_copy<D: Disk + Drop, N: Disk + Drop>(refused: &CopyFault<D, N>) -> CopyEnd<D, N>
     ensures { FailsBy refused.now result }
 {
@@ -116,7 +117,7 @@ pub struct Writers<W: Drop, E: Drop> {
     pub errors: E,
 }
 
-/// Stands for the content that the files of a copy had before.
+/// What stands for the content that the files of a copy had before.
 #[derive(Drop)]
 pub struct Starts<F: Drop, N: Drop> {
     /// That of the files to be copied.
@@ -125,17 +126,20 @@ pub struct Starts<F: Drop, N: Drop> {
     pub copy: N,
 }
 
-// What is known of a file apart from its rows; sizes are in bytes.
+// What is known of a file apart from its rows.
 #[derive(Clone, Copy)]
 struct FileStats {
+    // whether its pages have checksums
     has_checksums: bool,
+    // the size of the file, in bytes
     size: u64,
+    // the size of its WAL, in bytes
     log: u64,
 }
 
 /// Runs the command `check`: prints the statistics of a database, and returns the exit report with the
-/// connection that read it, or why it can't be read. The file isn't changed. Causes and error codes go to
-/// `errors`; a failed write there is ignored.
+/// connection that read it, or why it can't be read. The file isn't changed; `start` stands for its content.
+/// Causes and error codes go to `writers.errors`; a failed write there is ignored.
 pub fn check_file<F: Start, W: Write + Drop, E: Write + Drop>(
     host: LocalHost<'_>,
     database: &Database,
@@ -163,7 +167,7 @@ pub fn check_file<F: Start, W: Write + Drop, E: Write + Drop>(
     }
 }
 
-/// The exit status of `check_file`. The connection is closed.
+/// The exit status in the result of `check_file`. The connection is closed.
 pub fn status_checked<D: Disk + Drop, E>(
     checked: (
         ExitReport<E>,
@@ -176,7 +180,8 @@ pub fn status_checked<D: Disk + Drop, E>(
     exit.status
 }
 
-// Reports why a database can't be read, and prints the error code.
+// Reports why a database can't be read, and prints the error code `failure`, both to `errors`. A failed write
+// is ignored.
 fn report_unread<E: Write>(
     host: LocalHost<'_>,
     database: &Database,
@@ -189,7 +194,8 @@ fn report_unread<E: Write>(
     report_exit(errors, Err(failure))
 }
 
-// The statistics of a database, with the connection that read it. A database in memory is refused.
+// The statistics of a database, with the connection that read it. A database in memory is refused with
+// `Store`, since it has no file to read.
 #[tactic(auto, using(crate::proofs::KeepLemmas::look_fails))]
 fn look_in_database<F: Start>(
     host: LocalHost<'_>,
@@ -205,7 +211,8 @@ fn look_in_database<F: Start>(
     }
 }
 
-/// The statistics of the file at a path, with the connection that read it.
+/// The statistics of the database file at `path`, whose content `start` stands for, with the connection that
+/// read it.
 ///
 /// # Errors
 ///
@@ -220,7 +227,8 @@ pub fn look_in<F: Start>(
     ensures fault { IfErr result (FailsToRead (image_at F.Start)) }
 {
     let log = name_with(host.alloc(), path, "-wal")?;
-    // This closes the file, which releases the lock of any connection to it: so the connection comes later.
+    // `has_checksums` opens and closes the file, which would release the locks of a connection to it. So the
+    // connection is made after that.
     let stats = stats_at(&host, path, &log, has_checksums(host.rt, path));
     match look_at(host.rt, path, start) {
         Ok((connection, holdings)) => Ok((connection, checked_file(&holdings, stats))),
@@ -228,7 +236,8 @@ pub fn look_in<F: Start>(
     }
 }
 
-// What `check` reports of a file, from the counts of its rows and the other statistics.
+// What `check` reports of a file, from the counts of its rows (`holdings`) and the other statistics
+// (`stats`).
 fn checked_file(holdings: &DbStats, stats: FileStats) -> CheckedFile
     ensures counted { (w : World) → AreHoldingsOf holdings.now w → ReportsHoldings result w }
     ensures schema { result.is_old ≡ holdings.now.is_old }
@@ -249,8 +258,8 @@ fn checked_file(holdings: &DbStats, stats: FileStats) -> CheckedFile
     }
 }
 
-// The sizes of the file `path` and of its WAL `log`, each 0 if it can't be reached; `has_checksums` is
-// already known.
+// The sizes in bytes of the file at `path` and of its WAL at `log`, each 0 if it can't be reached; with
+// `has_checksums`, which is already known.
 fn stats_at<F: HostFiles>(files: &F, path: &str, log: &str, has_checksums: bool) -> FileStats
     ensures sums { result.has_checksums ≡ has_checksums }
     ensures sizes { IfSome (F.answers files.now) (λ it. (result.size ≡ found_size (it.found path.now))
@@ -263,7 +272,7 @@ fn stats_at<F: HostFiles>(files: &F, path: &str, log: &str, has_checksums: bool)
     }
 }
 
-// The size in bytes of what was found at a path; 0 if nothing can be reached.
+// The size in bytes of what was `found` at a path; 0 if nothing can be reached there.
 fn size_of(found: Result<Found, ErrorKind>) -> u64
     ensures { result ≡ found_size found }
 {
@@ -273,10 +282,11 @@ fn size_of(found: Result<Found, ErrorKind>) -> u64
     }
 }
 
-/// Runs the command `copy`: copies a database to a new file, prints how much it has, and returns the exit
-/// report with the connection to the database and the new files, or why nothing was copied. The database
-/// isn't changed. It is read at the path `scratch`, if given, but reported under its own name. Causes and
-/// error codes go to `errors`; a failed write there is ignored.
+/// Runs the command `copy` with its arguments `words`: copies a database to a new file in `folder`, prints
+/// how many operators and plans it has, and returns the exit report with the connection to the database and
+/// the new files, or why nothing was copied. The database isn't changed. It is read at the path `scratch`, if
+/// given, but reported under its own name. `starts` stands for the content of the files before. Causes and
+/// error codes go to `writers.errors`; a failed write there is ignored.
 #[tactic(auto, using(crate::proofs::KeepLemmas::uncopied))]
 pub fn copy_file<F: Start, N: Start, P: Folder, W: Write + Drop, E: Write + Drop>(
     host: LocalHost<'_>,
@@ -311,7 +321,7 @@ pub fn copy_file<F: Start, N: Start, P: Folder, W: Write + Drop, E: Write + Drop
     }
 }
 
-/// The exit status of `copy_file`. All files are closed.
+/// The exit status in the result of `copy_file`. All files are closed.
 pub fn status_copied<D: Disk + Drop, N: Disk + Drop, E>(
     copied: (ExitReport<E>, Result<Copies<D, N>, CopyEnd<D, N>>),
 ) -> u8
@@ -321,7 +331,8 @@ pub fn status_copied<D: Disk + Drop, N: Disk + Drop, E>(
     exit.status
 }
 
-// Prints how many operators and plans were copied.
+// Prints how many operators and plans were copied (`holdings`), or the error code to `errors` if that write
+// fails.
 fn print_holdings<W: Write, E: Write>(
     alloc: Global,
     holdings: &DbStats,
@@ -334,8 +345,10 @@ fn print_holdings<W: Write, E: Write>(
     print_copied(alloc, holdings.operators, holdings.plans, output, errors)
 }
 
-// Copies a database to a new file. It is written under a temporary name, and renamed once it is on the disk,
-// so that an interrupted copy leaves nothing under the final name.
+// Copies a database, read at the path `scratch` if given, to the new file `words.to`. That is written under a
+// temporary name, and renamed once it is on the disk, so that an interrupted copy leaves nothing under the
+// final name. The cause of a failure goes to `errors`; a database in memory and running out of memory have
+// none.
 #[tactic(auto, using(host_files::proofs::lemmas::Naming::leaves_none, host_files::proofs::lemmas::Naming::leaves_all))]
 fn copy_database<F: Start, N: Start, P: Folder, E: Write>(
     host: LocalHost<'_>,
@@ -366,7 +379,8 @@ fn copy_database<F: Start, N: Start, P: Folder, E: Write>(
     publish_or_discard(host, folder, source, &names, copied, errors)
 }
 
-// A file to be copied: its name in reports, and the path at which it is read.
+// A file to be copied: its name in reports, and the path at which it is read (that of its scratch copy, if it
+// has one).
 #[derive(Clone, Copy)]
 struct CopySource<'s> {
     name: &'s str,
@@ -386,8 +400,8 @@ impl<'s> CopySource<'s> {
     }
 }
 
-// Gives the new files their final names if the copy succeeded; else removes what was made. A failure is
-// reported.
+// Gives the new file its final name (of its `names`) if it was `copied`; else reports why not, and removes
+// what was made. If the name can't be given, that is reported too.
 fn publish_or_discard<D: Disk + Drop, N: Disk + Drop, P: Folder, E: Write>(
     host: LocalHost<'_>,
     folder: &mut P,
@@ -418,7 +432,9 @@ fn publish_or_discard<D: Disk + Drop, N: Disk + Drop, P: Folder, E: Write>(
     Ok(copies)
 }
 
-// Gives a complete new file its final name, or reports that this failed.
+// Gives a complete new file, which has a temporary name, its final one (`names` are both). If that fails,
+// this is reported to `errors`, and the error code is `Store`. A failed write and running out of memory are
+// ignored.
 #[tactic(auto, using(host_files::proofs::lemmas::Reporting::reports_nothing))]
 fn publish_copy<P: Folder, E: Write>(
     alloc: Global,
@@ -445,7 +461,8 @@ fn publish_copy<P: Folder, E: Write>(
     Err(ErrorCode::Store)
 }
 
-// Copies the database at `path` to new files at `to`, and closes these.
+// Copies the database at `path` to new files at `to`, and closes these. `starts` stands for the content that
+// the files of both had before.
 fn copy_and_close<F: Start, N: Start>(
     host: LocalHost<'_>,
     path: &str,
@@ -459,7 +476,7 @@ fn copy_and_close<F: Start, N: Start>(
     close_if_copied(copy_from(host.rt, path, starts.source, to, starts.copy))
 }
 
-// Closes the new files if they were made, or returns why they weren't.
+// Closes the new files if they were made; else returns why nothing was copied.
 fn close_if_copied<D: Disk + Drop, N: Disk + Drop>(
     copied: Result<Copied<D, N>, CopyFault<D, N>>,
 ) -> Result<Copies<D, N>, CopyEnd<D, N>>
@@ -474,7 +491,7 @@ fn close_if_copied<D: Disk + Drop, N: Disk + Drop>(
     }
 }
 
-// Closes the new files of a copy: their WAL is checkpointed.
+// Closes the new files of a copy: their WAL is checkpointed. The error code is `Store` if that fails.
 #[tactic(auto, using(crate::proofs::KeepLemmas::fails_closing))]
 fn close_copy<D: Disk + Drop, N: Disk + Drop>(
     copied: Copied<D, N>,
@@ -496,8 +513,9 @@ fn close_copy<D: Disk + Drop, N: Disk + Drop>(
     }
 }
 
-// Checks that a new file can be made, or reports what prevents it. The file to be copied (`source`) is never
-// removed.
+// Makes room for the new file: its `names` must be free, and what an interrupted copy left is removed. If
+// that fails, the cause is reported, and the error code is `Store`. The file to be copied (`source`) is never
+// removed. A failed write and running out of memory are ignored.
 #[tactic(auto, using(host_files::proofs::lemmas::Reporting::reports_nothing))]
 fn make_room_or_report<P: Folder, E: Write>(
     alloc: Global,
@@ -523,7 +541,9 @@ fn make_room_or_report<P: Folder, E: Write>(
     }
 }
 
-// Reports why a copy failed, and removes what was made. If no new file was made, the cause is in the source.
+// Reports why a copy failed (`failure`), and removes what was made under the temporary one of the `names`. If
+// nothing was made, the cause is looked for in the `source`. A failed write and running out of memory are
+// ignored.
 #[tactic(auto, using(host_files::proofs::lemmas::Reporting::reports_nothing))]
 fn report_and_discard<P: Folder, E: Write>(
     host: LocalHost<'_>,

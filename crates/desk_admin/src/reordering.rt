@@ -1,5 +1,5 @@
-//! Puts the tables of a database file in canonical order before a command opens it, once a repaired scratch
-//! copy of it was read as a valid database.
+//! Puts the tables of a database file in canonical order before a command opens it. A repaired scratch copy
+//! of the file is read first: only a valid database is reordered.
 
 ghost use Rattle.std.specs.Prelude.{◌≡◌, IfErr, IfNone, IfOk, Ok, OnErr, OnOk, false, true};
 ghost use Rattle.sqlite_wal.specs.Files.{image_at};
@@ -33,7 +33,7 @@ use std::io::Write;
 // What is reported of a file that was reordered.
 const REORDERED: &str = "its tables are put in a desk's own order";
 
-// The cause for a file that can be opened but not reordered.
+// The cause that is reported for a file that can be opened but not reordered.
 const UNWRITTEN: &str = "it can't be written: a full disk, or one that fails";
 
 /// A file that a command is about to open.
@@ -41,18 +41,19 @@ const UNWRITTEN: &str = "it can't be written: a full disk, or one that fails";
 pub struct ReorderTarget<'p> {
     /// Its path.
     pub path: &'p str,
-    /// How it would be read.
+    /// How it has to be read; only a file in `OtherOrder` is reordered.
     pub way: ReadMode,
-    /// Whether the command accepts a file of schema 1.
+    /// Whether the command accepts a file of schema 1, the old one.
     pub takes_old: bool,
 }
 
-/// Puts the tables of a database in canonical order if they are in another, and reports that. A file of
-/// schema 1 is accepted if `takes_old`. The contract assumes nothing about the content of files.
+/// Puts the tables of a database in canonical order if they are in another, and reports that on the standard
+/// error; a failed write there is ignored. Nothing is done for a database in memory. A file of schema 1 is
+/// accepted if `takes_old`. The contract assumes nothing about the content of files.
 ///
 /// # Errors
 ///
-/// Why that failed, which is reported.
+/// Why that failed, which is reported, unless memory ran out.
 #[tactic(auto, using(crate::proofs::ReorderLemmas::reorder_fails))]
 pub fn reorder_for(
     host: LocalHost<'_>,
@@ -77,7 +78,7 @@ pub fn reorder_for(
     result_of(reorder(host, &mut folder, file, Unknown, &mut host.errors()))
 }
 
-/// The result of `reorder` alone. The scratch copy is closed.
+/// The first part of the result of `reorder`: whether it succeeded. The scratch copy is closed.
 pub fn result_of<D: Disk + Drop>(
     reordered: (Result<(), ErrorCode>, Option<ReadResult<D>>),
 ) -> Result<(), ErrorCode>
@@ -87,10 +88,11 @@ pub fn result_of<D: Disk + Drop>(
     done
 }
 
-/// Puts the tables of a file in canonical order if they are in another. A repaired scratch copy is made, read
-/// and removed; if it is a valid database that the command accepts, the file itself is reordered. Success or
-/// the cause of failure goes to `errors`; a failed write there is ignored. Also returns the connection to the
-/// scratch copy, or why that can't be read; `None` if there was no scratch copy.
+/// Puts the tables of a file in canonical order if they are in another. A repaired scratch copy is made
+/// beside it in `folder`, read and removed; if it is a valid database that the command accepts, the file
+/// itself is reordered. Success or the cause of failure goes to `errors`; a failed write there is ignored.
+/// `start` stands for the content of the scratch copy. Also returns the connection to it, or why it can't be
+/// read; `None` if there was no scratch copy.
 ///
 /// # Errors
 ///
@@ -113,7 +115,8 @@ pub fn reorder<F: Start, P: Folder, E: Write>(
     }
 }
 
-// Makes and reads a repaired scratch copy of a file, and reorders the file if that is valid.
+// Makes, reads and removes a repaired scratch copy of a file, and reorders the file if the copy is a valid
+// database that the command accepts. Else the cause is reported, and the file isn't touched.
 fn reorder_by_scratch<F: Start, P: Folder, E: Write>(
     host: LocalHost<'_>,
     folder: &mut P,
@@ -135,8 +138,8 @@ fn reorder_by_scratch<F: Start, P: Folder, E: Write>(
     (done, Some(judged))
 }
 
-// Removes the scratch copy of a file, and reorders the file if its scratch copy was read (`found`) as a valid
-// database that the command accepts.
+// Removes the scratch copy of a file, and reorders the file if the copy was read as a valid database that the
+// command accepts. `found` is the result of reading it. Success or the cause of failure is reported.
 fn reorder_if_valid<D: Disk + Drop, P: Folder, E: Write>(
     host: LocalHost<'_>,
     folder: &mut P,
@@ -161,8 +164,9 @@ fn reorder_if_valid<D: Disk + Drop, P: Folder, E: Write>(
     }
 }
 
-// Whether the scratch copy of a file was read as a valid database that the command accepts; reports why if it
-// wasn't. The scratch copy still exists, since the report may read it again.
+// `Ok` if the scratch copy at the path `scratch` was read (`found`) as a valid database that the command
+// accepts; else reports why it wasn't, under the file's own name. Also returns `found` without the
+// statistics. The scratch copy still exists, since the report may read it again.
 fn admit_scratch<D: Disk + Drop, E: Write>(
     host: LocalHost<'_>,
     file: ReorderTarget<'_>,
@@ -190,7 +194,8 @@ fn admit_scratch<D: Disk + Drop, E: Write>(
     }
 }
 
-// Reorders a file, and reports that it succeeded or why it failed.
+// Reorders the file at `path`, and reports to `errors` that it succeeded or why it failed; the error code is
+// `Store` then. A failed write and running out of memory are ignored.
 fn reorder_or_report<P: Folder, E: Write>(
     host: LocalHost<'_>,
     folder: &mut P,
@@ -211,7 +216,8 @@ fn reorder_or_report<P: Folder, E: Write>(
     Ok(())
 }
 
-// Whether a command refuses a file since that is of schema 1.
+// Whether a command refuses a file because it is of schema 1 (`is_old`) and the command doesn't accept that
+// (`takes_old`).
 fn is_too_old(takes_old: bool, is_old: bool) -> bool
     ensures old { result ≡ true → (takes_old ≡ false) × (is_old ≡ true) }
     ensures taken { result ≡ false → takes_old ≡ false → is_old ≡ false }

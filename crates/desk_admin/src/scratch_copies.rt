@@ -1,4 +1,4 @@
-//! The commands `check` and `copy` by a scratch copy, which is read in place of the file and removed
+//! The commands `check` and `copy` by a scratch copy, which is read in place of the database file and removed
 //! afterwards. The file itself isn't opened as a database, and so isn't changed.
 
 ghost use Rattle.std.specs.Prelude.{◌≡◌, IfErr, IfOk, IfSome, string_bytes};
@@ -43,7 +43,7 @@ pub enum Rows {
 }
 
 impl Rows {
-    // The words of the report.
+    // What the report says about the rows, after the words "the rows".
     fn text(self) -> &'static str
         ensures { result.now ≡ spec.rows_text self }
     {
@@ -55,16 +55,16 @@ impl Rows {
     }
 }
 
-/// A connection to files of a disk `D`, or why these were refused.
+/// A connection to files of a disk `D`, or why they can't be read.
 pub type ReadResult<D> = Result<Connection<FileStore<D>>, OpenError<D>>;
 
 /// The same, with the statistics of the files.
 pub type CheckResult<D> = Result<(Connection<FileStore<D>>, CheckedFile), OpenError<D>>;
 
-/// Runs the command `check` by a scratch copy beside the file, made as `way` says. Returns the exit report,
-/// and the connection to the scratch copy or why it can't be read; `None` if there is no scratch copy. What
-/// is wrong with the file (checksums, table order), causes and error codes go to `errors`; a failed write
-/// there is ignored.
+/// Runs the command `check` by a scratch copy beside the file at `path` in `folder`, made as `way` says;
+/// `start` stands for its content. Returns the exit report, and the connection to the scratch copy or why it
+/// can't be read; `None` if there is no scratch copy. What is wrong with the file (checksums, table order),
+/// causes and error codes go to `writers.errors`; a failed write there is ignored.
 pub fn check_by_scratch<F: Start, P: Folder, W: Write + Drop, E: Write + Drop>(
     host: LocalHost<'_>,
     folder: &mut P,
@@ -98,7 +98,7 @@ pub fn check_by_scratch<F: Start, P: Folder, W: Write + Drop, E: Write + Drop>(
     (exit, Some(judged))
 }
 
-/// The exit status of `check_by_scratch`. The scratch copy is closed.
+/// The exit status in the result of `check_by_scratch`. The scratch copy is closed.
 pub fn status_checked_by_scratch<D: Disk + Drop, E>(
     judged: (ExitReport<E>, Option<ReadResult<D>>),
 ) -> u8
@@ -108,8 +108,9 @@ pub fn status_checked_by_scratch<D: Disk + Drop, E>(
     exit.status
 }
 
-// Prints the statistics of a file, read from its scratch copy, or reports why that is refused. The scratch
-// copy still exists, since the report may read it again.
+// Prints the statistics of the file at `path`, or reports why its scratch copy, at `scratch` and made as
+// `way` says, is refused. `found` is the result of reading the scratch copy, which still exists, since the
+// report may read it again.
 fn report_found<D: Disk + Drop, W: Write + Drop, E: Write + Drop>(
     host: LocalHost<'_>,
     path: &str,
@@ -147,7 +148,8 @@ fn report_found<D: Disk + Drop, W: Write + Drop, E: Write + Drop>(
     }
 }
 
-// Reports what is wrong with a file whose scratch copy is a valid database: its checksums or its table order.
+// Reports what is wrong with a file whose scratch copy is a valid database: its checksums or its table order,
+// by the `way` in which it was read. A failed write and running out of memory are ignored.
 fn report_defect<E: Write>(alloc: Global, path: &str, way: ReadMode, errors: &mut E)
     ensures { IsNotedIf (spec.taken_line path.now way) (bytes_written E.Write errors.old errors.new) }
 {
@@ -158,7 +160,9 @@ fn report_defect<E: Write>(alloc: Global, path: &str, way: ReadMode, errors: &mu
     }
 }
 
-// Reports why the scratch copy of a file is refused, and prints the error code.
+// Reports why the scratch copy (at `scratch`) of the file at `path` is refused with the error code `failure`,
+// and prints the error code, both to `errors`. If the file has wrong checksums (`way`), the report says that
+// its rows are invalid, and the error code is `Store` unless memory ran out. A failed write is ignored.
 fn report_refused<E: Write>(
     host: LocalHost<'_>,
     path: &str,
@@ -183,7 +187,8 @@ fn report_refused<E: Write>(
     }
 }
 
-// Reports why the scratch copy of a file is refused, under the name of the file, and prints the error code.
+// Reports why the scratch copy at the path `scratch` is refused, under the name of its file (`path`), and
+// prints the error code `failure`. A failed write is ignored.
 fn report_refused_as<E: Write>(
     host: LocalHost<'_>,
     path: &str,
@@ -197,8 +202,9 @@ fn report_refused_as<E: Write>(
     report_exit(errors, Err(failure))
 }
 
-// Reports that the rows of a file with wrong checksums are invalid, and prints the error code. If memory ran
-// out, only that code is printed: it says nothing about the rows.
+// Reports how many `pages` of a file have wrong checksums and that its rows are invalid, and prints the error
+// code `Store`. If memory ran out (`failure`), only the code `Memory` is printed: that says nothing about the
+// rows. A failed write is ignored.
 fn report_invalid_rows<E: Write>(
     alloc: Global,
     path: &str,
@@ -217,10 +223,11 @@ fn report_invalid_rows<E: Write>(
     }
 }
 
-/// Runs the command `copy` by a scratch copy beside the new file, made as `way` says and read as by
-/// `copy_file`. Returns the same, but `None` if there is no scratch copy, whose cause goes to `errors` with
-/// the error code. After a copy of a file with wrong checksums, `errors` also gets a line that its rows alone
-/// were tested.
+/// Runs the command `copy` with its arguments `words`, by a scratch copy beside the new file. The scratch
+/// copy is made as `way` says, and copied by `copy_file`. Returns what that returns; `None` in place of the
+/// copies if there is no scratch copy: then the cause and the error code go to `writers.errors` (of a
+/// database in memory only the code, `Store`). After a copy of a file with wrong checksums, a line there says
+/// that only its rows were tested. A failed write there is ignored.
 pub fn copy_by_scratch<F: Start, N: Start, P: Folder, W: Write + Drop, E: Write + Drop>(
     host: LocalHost<'_>,
     folder: &mut P,
@@ -258,7 +265,7 @@ pub fn copy_by_scratch<F: Start, N: Start, P: Folder, W: Write + Drop, E: Write 
     (exit, Some(copied))
 }
 
-/// The exit status of `copy_by_scratch`. All files are closed.
+/// The exit status in the result of `copy_by_scratch`. All files are closed.
 pub fn status_copied_by_scratch<D: Disk + Drop, N: Disk + Drop, E>(
     copied: (ExitReport<E>, Option<Result<Copies<D, N>, CopyEnd<D, N>>>),
 ) -> u8
@@ -268,8 +275,9 @@ pub fn status_copied_by_scratch<D: Disk + Drop, N: Disk + Drop, E>(
     exit.status
 }
 
-// Reports that nothing but the rows was tested of a file with wrong checksums, if its copy succeeded
-// (`status` is 0).
+// Reports that only the rows of the file at `path` were tested, if it has wrong checksums (`way`) and its
+// copy succeeded (`status` is 0). Else nothing is reported. A failed write and running out of memory are
+// ignored.
 fn report_tested<E: Write>(alloc: Global, path: &str, way: ReadMode, status: u8, errors: &mut E)
     ensures { IsTestReported path.now way status (bytes_written E.Write errors.old errors.new) }
 {
@@ -278,8 +286,8 @@ fn report_tested<E: Write>(alloc: Global, path: &str, way: ReadMode, status: u8,
     }
 }
 
-// Reports how many pages of a file have wrong checksums, and what is known of its rows. A failed write and
-// running out of memory are ignored.
+// Reports how many pages of the file at `path` have wrong checksums, and what is known of its rows. A failed
+// write and running out of memory are ignored.
 fn report_rows<E: Write>(alloc: Global, path: &str, pages: u64, rows: Rows, errors: &mut E)
     ensures { IsWrittenIfRoom (spec.rows_line path.now pages rows)
         (bytes_written E.Write errors.old errors.new) }
@@ -289,25 +297,27 @@ fn report_rows<E: Write>(alloc: Global, path: &str, pages: u64, rows: Rows, erro
     }
 }
 
-// Reports that a file lists its tables in a non-canonical order. A failed write and running out of memory are
-// ignored.
+// Reports that the file at `path` lists its tables in a non-canonical order. A failed write and running out
+// of memory are ignored.
 fn report_order<E: Write>(alloc: Global, path: &str, errors: &mut E)
     ensures { IsWrittenIfRoom (spec.order_line path.now) (bytes_written E.Write errors.old errors.new) }
 {
     report_of(alloc, path, order_text(), errors);
 }
 
-// The line that reports wrong checksums, and what is known of the rows.
+// The line that reports that so many `pages` have wrong checksums, and what is known of the rows
+// (`about_rows`, the words of `Rows::text`).
 #[tactic(auto, unfolding(crate::specs::ScratchCopies::bad_checksums_line))]
 fn bad_checksums_line(
     alloc: Global,
     path: &str,
     pages: u64,
-    text: &str,
+    about_rows: &str,
 ) -> Result<String, AllocError>
-    ensures { IfOk result (λ line. string_bytes line ≡ spec.bad_checksums_line path.now pages text.now) }
+    ensures { IfOk result (λ line.
+        string_bytes line ≡ spec.bad_checksums_line path.now pages about_rows.now) }
 {
     format!(in alloc;
-        "uss_desk: {path}: {pages} pages without their sums, as sqlite3 leaves them; the rows {text}\n"
+        "uss_desk: {path}: {pages} pages without their sums, as sqlite3 leaves them; the rows {about_rows}\n"
     )
 }

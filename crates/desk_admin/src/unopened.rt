@@ -14,7 +14,7 @@ use sqlite_disk::Disk;
 use std::alloc::AllocError;
 use std::snapshot::Snapshot;
 
-/// Why a database was not opened. Files that were refused are closed; only clauses read the snapshot of them.
+/// Why a database was not opened. Refused files are closed; their snapshot exists only for the contracts.
 #[derive(Drop)]
 pub struct OpenError<D: Disk> {
     /// The error code with which the command ends.
@@ -24,8 +24,7 @@ pub struct OpenError<D: Disk> {
 }
 
 impl<D: Disk + Drop> OpenError<D> {
-    /// The error of files that were refused. Their connection is closed, so that the report can read them
-    /// again.
+    /// The error for `refused` files. Their connection is closed, so that a report can read them again.
     pub fn of(refused: FilesFault<D>) -> OpenError<D>
         ensures failure { result.failure ≡ spec.open_failure refused.fault }
         ensures refused { IsSomeAnd result.refused (λ s. s.value ≡ refused) }
@@ -36,7 +35,7 @@ impl<D: Disk + Drop> OpenError<D> {
         }
     }
 
-    /// An error before any file was opened.
+    /// The error for a `fault` before any file was opened.
     pub fn unread(fault: OpenFault) -> OpenError<D>
         ensures { IsUnreadFor result fault }
     {
@@ -58,10 +57,10 @@ impl<D: Disk + Drop> From<AllocError> for OpenError<D> {
     }
 }
 
-/// Why files were not opened, where `F` stands for their content.
+/// Why files were not opened; `F` is a type that stands for their content.
 pub type FileOpenError<F> = OpenError<FileFrom<F>>;
 
-/// What was opened, or the error code alone. Refused files are closed.
+/// What was opened, or only the error code of why not. The connection to refused files is closed before.
 pub fn or_failure<D: Disk + Drop, T>(opened: Result<T, OpenError<D>>) -> Result<T, ErrorCode>
     ensures { result ≡ spec.or_failure opened }
 {
@@ -71,8 +70,8 @@ pub fn or_failure<D: Disk + Drop, T>(opened: Result<T, OpenError<D>>) -> Result<
     }
 }
 
-/// The error code with which the program ends if a database can't be opened. It is printed as `open_word`
-/// says.
+/// The error code with which the program ends if a database can't be opened for this `fault`. Its printed
+/// word is `open_word fault`.
 pub fn open_failure(fault: &OpenFault) -> ErrorCode
     ensures failure { result ≡ spec.open_failure fault.now }
     ensures word { failure_word result ≡ open_word fault.now }

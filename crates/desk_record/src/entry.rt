@@ -9,16 +9,17 @@ use crate::line::{Line, line_text};
 use crate::sums::checksum;
 use std::alloc::{AllocError, Global};
 
-/// One entry of the journal.
+/// One entry of the journal, as it is read back.
 #[derive(Debug, Drop)]
 pub struct Entry {
     pub kind: Kind,
-    /// Its meaning depends on the kind.
+    /// Its meaning depends on the kind: `Kind` says which.
     pub number: u64,
+    /// The entry's own bytes, which follow its line. Their meaning depends on the kind too.
     pub bytes: Vec<u8>,
 }
 
-/// Appends an entry to `text`.
+/// Appends an entry with this kind, number and bytes to `text`: all of it or nothing.
 ///
 /// # Errors
 ///
@@ -37,7 +38,7 @@ pub fn write_entry(
     text.extend_from_slice(&entry)
 }
 
-// The text of an entry: its line, its bytes, a line feed.
+// The text of an entry: its line, its bytes, a line feed. Fails if memory runs out.
 #[tactic(auto, unfolding(crate::specs::Record::entry))]
 fn entry_text(alloc: Global, kind: Kind, number: u64, bytes: &[u8]) -> Result<Vec<u8>, AllocError>
     ensures { IfOk result (λ text. text.items

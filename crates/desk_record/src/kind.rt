@@ -4,7 +4,7 @@ ghost use Rattle.std.specs.Prelude.{◌≡◌};
 ghost use Rattle.desk_record.specs.Record.{word};
 ghost use Rattle.desk_record.specs.EntryLines.{kind_of};
 
-/// What a journal entry reports. The comments say what its number is, and what its bytes are.
+/// What a journal entry reports. Each comment says what the entry's number is, and what its bytes are.
 #[derive(Clone, Copy, Debug, PartialEq, Eq)]
 pub enum Kind {
     /// A journal file begins. Number: that of the file in its folder. Bytes: the version of the format.
@@ -15,16 +15,16 @@ pub enum Kind {
     Spans,
     /// A limit on the cells of all plans of an operator. Number: the limit. No bytes.
     Cells,
-    /// An operator is enrolled. Number: its ceiling. Bytes: its name.
+    /// An operator is enrolled. Number: its ceiling, the maximum priority. Bytes: its name.
     Operator,
     /// A request is received. Number: the Unix second at which it is decided. Bytes: the request as it came.
     Request,
-    /// The request before is answered. Number: that request's Unix second. Bytes: the answer as it is sent.
+    /// The last request is answered. Number: that request's Unix second. Bytes: the answer as it is sent.
     Answer,
 }
 
 impl Kind {
-    /// The word for this kind in an entry's line, padded to nine characters.
+    /// The word for this kind in an entry's line, padded with blanks to nine bytes.
     pub fn word(self) -> &'static [u8]
         ensures { result.now ≡ word self }
     {
@@ -40,7 +40,7 @@ impl Kind {
     }
 }
 
-/// The kind whose padded word `text` is. None for every other text.
+/// The kind whose word, padded to nine bytes, is `text`; `None` for any other text.
 pub fn parse_kind(text: &[u8]) -> Option<Kind>
     ensures { result ≡ kind_of text.now }
 {

@@ -13,18 +13,18 @@ use std::alloc::{AllocError, Global};
 /// The length of a line, in bytes.
 pub const LINE_LEN: usize = 86;
 
-/// The fields of a line.
+/// The fields of a line, without the line's own checksum.
 #[derive(Drop)]
 pub struct Line {
     pub kind: Kind,
     pub number: u64,
-    /// The number of the entry's own bytes.
+    /// How many bytes of its own the entry has.
     pub size: u64,
-    /// The checksum of these bytes, as hexadecimal digits.
+    /// The checksum of these bytes, as sixteen hexadecimal digits.
     pub sum: Vec<u8>,
 }
 
-/// The text of a line: its fields, then the checksum of these.
+/// The text of a line: its fields, the checksum of their text, a line feed.
 ///
 /// # Errors
 ///
@@ -41,7 +41,8 @@ pub fn line_text(alloc: Global, line: &Line) -> Result<Vec<u8>, AllocError>
     Ok(text)
 }
 
-// Appends the fields of `line`: all of its text before its own checksum.
+// Appends the fields of `line` to `text`, a blank after each: all that stands before the line's own checksum.
+// If memory runs out, a part of them may be appended.
 fn write_line_fields(text: &mut Vec<u8>, line: &Line) -> Result<(), AllocError>
     ensures { OnOk result (text.new.items ≡ text.old.items
         ++ front line.now.kind line.now.number line.now.size line.now.sum.items) }
@@ -57,7 +58,8 @@ fn write_line_fields(text: &mut Vec<u8>, line: &Line) -> Result<(), AllocError>
     Ok(())
 }
 
-/// Parses a line and checks its own checksum. None if `bytes` isn't a line.
+/// Parses the 86 `bytes` of a line and checks the line's own checksum. `None` if they aren't a line: only the
+/// text that `line_text` makes of the fields is one.
 ///
 /// # Errors
 ///
@@ -77,7 +79,9 @@ pub fn read_line(alloc: Global, bytes: &[u8]) -> Result<Option<Line>, AllocError
     }
 }
 
-// Parses the fields of a line, by their places. Its own checksum and its blanks aren't checked.
+// Parses the fields of a line by their places: the kind at byte 0, the number at 10, the size at 31 and the
+// entry's checksum at 52. The line's own checksum and its blanks aren't checked here. `None` if the kind or
+// one of the numbers is invalid.
 #[tactic(auto, unfolding(crate::specs::EntryLines::line_parts_in))]
 fn parse_line_fields(alloc: Global, bytes: &[u8]) -> Result<Option<Line>, AllocError>
     requires { length bytes.now ≡ 86 }

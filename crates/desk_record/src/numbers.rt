@@ -7,11 +7,11 @@ ghost use Rattle.desk_record.specs.EntryLines.{next_digit, number_from};
 
 use std::alloc::AllocError;
 
-/// Appends `number` as twenty decimal digits.
+/// Appends `number` to `out` as twenty decimal digits, with leading zeros.
 ///
 /// # Errors
 ///
-/// `AllocError` if memory runs out.
+/// `AllocError` if memory runs out: some of the digits may be appended.
 #[tactic(auto, unfolding(crate::specs::Record::number))]
 pub fn write_number(out: &mut Vec<u8>, number: u64) -> Result<(), AllocError>
     ensures { OnOk result (out.new.items ≡ out.old.items ++ record_text.number number) }
@@ -19,7 +19,8 @@ pub fn write_number(out: &mut Vec<u8>, number: u64) -> Result<(), AllocError>
     write_digits(out, 20, number)
 }
 
-// Appends the last `width` decimal digits of `number`.
+// Appends the last `width` decimal digits of `number` to `out`, with leading zeros. If memory runs out, some
+// of them may be appended.
 #[tactic(auto, using(crate::proofs::DigitLemmas::one_digit), unfolding(crate::specs::Record::digits))]
 fn write_digits(out: &mut Vec<u8>, width: u32, number: u64) -> Result<(), AllocError>
     ensures { OnOk result (out.new.items ≡ out.old.items ++ digits width number) }
@@ -32,7 +33,7 @@ fn write_digits(out: &mut Vec<u8>, width: u32, number: u64) -> Result<(), AllocE
     Ok(())
 }
 
-/// The number that `text`, decimal digits, writes; 0 if it is empty. None for other bytes, or from 2^64 on.
+/// Parses decimal digits; an empty `text` is 0. `None` if a byte isn't a digit or the number is 2^64 or more.
 pub fn parse_number(text: &[u8]) -> Option<u64>
     ensures { result ≡ number_from 0 text.now }
 {
@@ -43,7 +44,8 @@ pub fn parse_number(text: &[u8]) -> Option<u64>
     Some(number)
 }
 
-// `number` with one more decimal digit. None if `digit` isn't one, or from 2^64 on.
+// `number` with the decimal digit `digit` (an ASCII byte) appended. `None` if the byte isn't a digit or the
+// result is 2^64 or more.
 fn append_digit(number: u64, digit: u8) -> Option<u64>
     ensures { result ≡ next_digit number digit }
 {

@@ -14,10 +14,10 @@ use io_ends::is_interrupted;
 use std::alloc::{AllocError, Global};
 use std::io::Read;
 
-/// How many bytes are read at a time, at most.
+/// At most how many bytes one read asks for.
 const CHUNK: usize = 4_096;
 
-/// How often one read is tried, if it is interrupted each time.
+/// After how many interrupted tries a read counts as failed.
 const MAX_TRIES: u32 = 1_000_000;
 
 /// Why no entry was read.
@@ -29,7 +29,7 @@ pub enum ReadFault {
     OutOfMemory,
     /// The input ended inside an entry.
     CutShort,
-    /// The input goes on with something else than an entry.
+    /// The input goes on with bytes that are no entry: they are damaged.
     NoRecord,
 }
 
@@ -44,11 +44,13 @@ impl From<AllocError> for ReadFault {
     }
 }
 
-/// Reads one entry, and leaves the rest unread. None if the input has ended.
+/// Reads one entry, and leaves the rest unread. `None` if the input has ended. The line's checksum is checked
+/// first, so that a damaged size isn't trusted.
 ///
 /// # Errors
 ///
-/// As `ReadFault` says. `CutShort` and `NoRecord` depend on the bytes of the input alone.
+/// As `ReadFault` says. `CutShort` and `NoRecord` depend on the bytes of the input alone. How much of the
+/// input was read then isn't specified.
 pub fn read_entry<R: Read>(alloc: Global, input: &mut R) -> Result<Option<Entry>, ReadFault>
     ensures entry { IfOk result (λ found. IfSome found (λ e.
         Consumes (R.remaining input.old) (R.remaining input.new) (entry (entry_shown e)))) }
@@ -82,7 +84,8 @@ pub fn read_entry<R: Read>(alloc: Global, input: &mut R) -> Result<Option<Entry>
     }))
 }
 
-// Whether `bytes` have the length and the checksum that `line` says, and `last` is the line feed after them.
+// Whether `bytes` have the length and the checksum that `line` says, and `last`, what was read after them, is
+// a line feed. Fails if memory runs out.
 #[tactic(auto, unfolding(crate::specs::Record::entry))]
 fn is_intact(alloc: Global, line: &Line, bytes: &[u8], last: &[u8]) -> Result<bool, AllocError>
     ensures { IfOk result (λ sound. sound ≡ has_bytes (line_shown line.now) bytes.now last.now) }
@@ -91,7 +94,8 @@ fn is_intact(alloc: Global, line: &Line, bytes: &[u8], last: &[u8]) -> Result<bo
     Ok(bytes.len() as u64 == line.size && sum == line.sum && last == b"\n".as_slice())
 }
 
-// Reads `size` bytes, or fewer if the input ends before.
+// Reads `size` bytes, or fewer if the input ends before that. A failed read or running out of memory is the
+// only error. Each round reads at least one byte, so `size` rounds are enough.
 fn read_up_to<R: Read>(alloc: Global, input: &mut R, size: u64) -> Result<Vec<u8>, ReadFault>
     ensures taken { IfOk result (λ text.
         Consumes (R.remaining input.old) (R.remaining input.new) text.items) }
@@ -117,7 +121,8 @@ fn read_up_to<R: Read>(alloc: Global, input: &mut R, size: u64) -> Result<Vec<u8
     Ok(text)
 }
 
-// Reads once into `room`, and retries an interrupted read.
+// Reads once into `room`, and returns how many bytes were read: 0 at the end of the input. An interrupted
+// read is tried again, at most a million times; then it counts as failed.
 fn read_retrying<R: Read>(input: &mut R, room: &mut [u8]) -> Result<usize, ReadFault>
     ensures bound { ReadsAtMost result room.new }
     ensures taken { IfOk result (λ n.

@@ -1,4 +1,4 @@
-//! Checksums, by which damage is noticed.
+//! The checksums of the journal, which show damaged bytes.
 
 ghost use Rattle.std.specs.Prelude.{◌≡◌, IfOk};
 ghost use Rattle.desk_record.specs.Record.{sum};

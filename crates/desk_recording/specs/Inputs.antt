@@ -1,5 +1,5 @@
--- Inputs: the requests of an input, handed out one after the other so that they are recorded, and how a line
--- of `play` ends whose requests they are.
+-- Inputs: `play` with a journal. The requests of its input are handed out one after the other, as the
+-- connections of a port, so that they are recorded.
 use Rattle.std.specs.Prelude.{◌≡◌, ◌⊎◌, ⊤, ℕ, List, Bool, true, false, Option, Some, None, IfSome, Result, Ok, Err}
 use Rattle.std.specs.Option.{IsSomeAnd, option_map}
 use Rattle.std.specs.Io.KnownBytes.{Appends, IsAtEnd}
@@ -29,8 +29,9 @@ use Rattle.desk_recording.specs.declared.inputs.InputPort.{InputPort}
 use Rattle.desk_recording.specs.declared.port.RecordedPort.{RecordedPort}
 use Rattle.desk_recording.specs.declared.record.Record.{Ghosts}
 
--- why an input hands out no request: it is at its end; it ends inside one; the place of the next request is
--- not known; or a read failed, or memory ran out
+-- why an input hands out no more requests, by whether the place of the next one is unknown (unframed), and by
+-- what is left of the input: nothing is left; it ends inside a request; a read failed or memory ran out; or
+-- the place is unknown. An output that can't be written is no reason here
 abbrev pub HandsOutNone : {R W : Type 0} → Bool → Option (List ℕ) → InputEnd R W → Type 0
 HandsOutNone unframed left AtEnd = (unframed ≡ false) × IsAtEnd left
 HandsOutNone unframed left CutShort = (unframed ≡ false) × IfSome left IsCut
@@ -39,7 +40,7 @@ HandsOutNone unframed left OutOfMemory = unframed ≡ false
 HandsOutNone unframed left Unframed = unframed ≡ true
 HandsOutNone unframed left (AppendError cut) = ⊥
 
--- how a line ends by why an input hands out no more
+-- the result of `play`, by why its input ended
 abbrev pub reported_as : {R W : Type 0} → InputEnd R W → Result ⊤ ErrorCode
 reported_as AtEnd = Ok (tt {0})
 reported_as CutShort = Err failure.CutShort
@@ -48,35 +49,38 @@ reported_as OutOfMemory = Err failure.Memory
 reported_as Unframed = Err failure.Unframed
 reported_as (AppendError cut) = Err failure.Write
 
--- an input ends since its output broke off inside an answer
+-- an input ends because writing this answer to the output broke off
 abbrev pub IsUnwritten : {R W : Type 0} → List ℕ → Course (Option (List ℕ)) → InputEnd R W → Type 0
 IsUnwritten answer writes (AppendError cut) = BreaksOff answer writes.before writes.after cut.fault
 IsUnwritten answer writes _ = ⊥
 
--- an answer is written, and the input has ended if it had; or it breaks off, and so the input ends
+-- an answer is written, and why the input ended, if it did, stays as it was (old); or the write breaks off,
+-- and that is why the input ended (new)
 abbrev pub EndsInput : {R W : Type 0} → List ℕ → Course (Option (List ℕ)) → Option (InputEnd R W)
     → Option (InputEnd R W) → Type 0
 EndsInput answer writes old new = (Appends writes.before writes.after answer × (new ≡ old))
     ⊎ IsSomeAnd new (IsUnwritten answer writes)
 
--- how a line ends: as the input or the output did, if one did; else by why no more was played; or at as many
--- requests as one line answers
+-- the result of `play`: if the input or the output ended, that decides; else the error of serving the port,
+-- if there is one; else as many requests were answered as one command answers, and the error is `Unframed` or
+-- `Limit`
 abbrev pub ended_by : Option (Result ⊤ ErrorCode) → Bool → Result ⊤ ErrorCode → Result ⊤ ErrorCode
 ended_by (Some ended) unframed done = ended
 ended_by None unframed (Err f) = Err f
 ended_by None true (Ok done) = Err failure.Unframed
 ended_by None false (Ok done) = Err failure.Limit
 
--- what is known of a recorded input, of the port that hands it out, and of how its line ended: how the input
--- or the output ended, if one did; whether the place of the next request is not known; what the port reported
--- before and reports after; the end
+-- the effects of `play` with a journal: the result by which the input or the output ended, if one did;
+-- whether the place of the next request is unknown; what the port reported before and after; and how the
+-- command ended
 pub record InputOutside : Type 0 where
   pub stopped : Option (Result ⊤ ErrorCode)
   pub unframed : Bool
   pub port : Course Traffic
   pub end : Ending
 
--- by the port before and after, and by the error writer
+-- these effects, by the port before (old) and after (new), the exit report, and the error writer before and
+-- after
 abbrev pub input_outside :
     {R W K F E : Type 0} → Ghosts K F → write.Ghosts E → RecordedPort (InputPort R W) K
     → RecordedPort (InputPort R W) K → ExitReport E → E → E → InputOutside
@@ -87,28 +91,29 @@ input_outside k e old new exit before now = record {
   end = ended e exit before now;
 }
 
--- the requests of an input are played, and the line ends by that
+-- the requests of the input are played, which takes the desk from the state w to `after`; and the command
+-- ends with the result of that. H: the disk has returned what was written
 pub record IsPlayRecorded (H : Type 0) (play : PlayArgs) (o : InputOutside) (w after : DeskWorld) : Type 0
   where
     pub done : Result ⊤ ErrorCode
     pub ends : EndsWith (ended_by o.stopped o.unframed done) o.end
     pub played : IsInputPlayed H done play o.port w after
 
--- and what is found then
+-- the same, and the content `found` is one that the next start may find
 pub record IsRecordedKept (H : Type 0) (play : PlayArgs) (o : InputOutside) (w after : DeskWorld)
     (found : Option World) : Type 0 where
   pub done : Result ⊤ ErrorCode
   pub ends : EndsWith (ended_by o.stopped o.unframed done) o.end
   pub kept : IsInputKept H done play o.port w after found
 
--- if it ends with a store that failed, and not as the input did, that has counted a fault
+-- if the command ends with the error `Store`, the store has counted a fault (from old to new)
 pub record IsRecordedCause (o : InputOutside) (old new : ℕ) : Type 0 where
   pub done : Result ⊤ ErrorCode
   pub ends : EndsWith (ended_by o.stopped o.unframed done) o.end
   pub cause : IsEndCounted done old new
 
--- the requests of an input are played at a desk, and what may be found then; if the line ended with `store`,
--- that has its cause
+-- all of that for a desk before (old) and after (new): the requests are played; what the next start may find;
+-- nothing known of the store is lost; and an error `Store` has its cause
 pub record PlaysRecorded {S : Type 0} (g : store.Ghosts S) (play : PlayArgs) (o : InputOutside)
     (old new : Parts S) : Type 0 where
   pub played : IsPlayRecorded (IsHonest (g.doubt new.store)) play o (world_of g.content old)
@@ -118,6 +123,6 @@ pub record PlaysRecorded {S : Type 0} (g : store.Ghosts S) (play : PlayArgs) (o 
   pub remembered : Remembers g.doubt g.faults g.is_shielded old.store new.store
   pub cause : IsRecordedCause o (g.faults old.store) (g.faults new.store)
 
--- no desk was opened: the line ends with that failure, and nothing is taken
+-- no desk was opened: the command ends with that error code, and no request is taken
 abbrev pub IsUnrecorded : {A : Type 0} → InputOutside → Option A → ErrorCode → Type 0
 IsUnrecorded o left f = FailsWith f o.end × (left ≡ None) × (o.port.after ≡ o.port.before)

@@ -1,4 +1,4 @@
--- Played: what a record says that a desk wrote at a port, played again (docs/journal-format.md).
+-- Played: the replay of a journal that a desk wrote at a port (docs/journal-format.md).
 use Rattle.std.specs.Prelude.{◌≡◌, ◌≢◌, ◌≤◌, ◌⊎◌, length, ℕ, ℤ, nat_abs, List, [], ◌∷◌, ◌++◌, All, map, Option, None, Some, IsSome, Ok}
 use Rattle.desk_record.specs.Record.{EntryParts, entries}
 use Rattle.request_parser.specs.Requests.{asked}
@@ -18,25 +18,26 @@ abbrev pub known : Option (List ℕ) → List ℕ
 known None = []
 known (Some bytes) = bytes
 
--- a request and its answer; nothing where no whole request came
+-- the entries of a request and its answer; none if no whole request came
 abbrev pub pair_of : ℤ → List ℕ → List ℕ → List EntryParts
 pair_of moment [] answer = []
 pair_of moment (b ∷ request) answer =
     request_entry (nat_abs moment) (b ∷ request) ∷ answer_entry (nat_abs moment) answer ∷ []
 
--- the enrolments of connections, their requests, and their answers
+-- the entries of connections: for each its new enrolments, its request and its answer
 abbrev pub entries_of : List Exchange → List EntryParts
 entries_of [] = []
 entries_of (x ∷ xs) = map operator_entry x.newly_enrolled
     ++ (pair_of x.arrival.moment (known x.arrival.bytes) (known x.parting.sent) ++ entries_of xs)
 
--- records were played up to this world: one has begun, and its requests are answered
+-- a replay has come to this world: a journal has begun, and all its requests are answered
 pub record IsPlayedTo (s : State) (w : DeskWorld) : Type 0 where
   pub world : s.world ≡ w
   pub begun : IsSome s.record_number
   pub answered : s.asking ≡ None
 
--- these entries are added to a text; played from one world, they differ nowhere and leave another
+-- the text is that of n with these entries appended; their replay from the state s reports no difference, and
+-- results in the world `after`
 pub record AddsPlayed (n : Noted) (text : List ℕ) (added : List EntryParts) (s : State) (after : DeskWorld)
     : Type 0 where
   pub text_is : text ≡ n.text ++ entries added
@@ -44,35 +45,39 @@ pub record AddsPlayed (n : Noted) (text : List ℕ) (added : List EntryParts) (s
   pub plays : played s added ≡ Ok left
   pub now : IsPlayedTo left after
 
--- these entries are added to the text of a record that stays open, and so played
+-- the same, and the journal stays open with this text
 pub record AddsOpen (n : Noted) (now : Option Recorded) (added : List EntryParts) (s : State)
     (after : DeskWorld) : Type 0 where
   pub m : Noted
   pub is : now ≡ Some (Open m)
   pub adds : AddsPlayed n m.text added s after
 
--- the world in which operators are listed, and then a request is answered, if there is one
+-- the world after operators are enrolled in w, and then a request is answered, if there is one
 abbrev pub caught_up : DeskWorld → List Enrolment → ℤ → List ℕ → DeskWorld
 caught_up w newly_enrolled moment [] = with_operators w newly_enrolled
-caught_up w newly_enrolled moment (b ∷ request) = world_after (with_operators w newly_enrolled) moment (asked (b ∷ request))
+caught_up w newly_enrolled moment (b ∷ request) =
+    world_after (with_operators w newly_enrolled) moment (asked (b ∷ request))
 
--- a record is open with this text; or it has ended with it, or with what was not carried out behind it
+-- a journal is open with the text of m; or it ended with that text; or it ended with that text and entries
+-- after it that were not carried out
 abbrev pub EndsAs : Noted → Option Recorded → Type 0
 EndsAs m now = (now ≡ Some (Open m)) ⊎ (now ≡ Some (Ended m.text)) ⊎ IsCutOff m now
 
--- why an answer lacks: it could not be kept, and the record has ended; or the desk failed at its request
+-- why a request has no answer: this couldn't be appended, and the journal ended; or the desk failed at it
 abbrev pub IsUnanswered : Noted → Option Recorded → Exchange → Type 0
 IsUnanswered m now x = (now ≡ Some (Ended m.text)) ⊎ (failure_at x.served ≢ None)
 
--- a desk that begins with what is found, on the same terms, leaves this once it has caught up
+-- a desk that starts with the content `found`, on the same terms, comes to the world `left` by a recovery:
+-- the operators are enrolled and the request is carried out
 pub record CatchesUp (found : Option World) (after : DeskWorld) (newly_enrolled : List Enrolment) (moment : ℤ)
     (request : List ℕ) (left : DeskWorld) : Type 0 where
   pub content : World
   pub is : found ≡ Some content
   pub behind : left ≡ caught_up (with_content after.terms content) newly_enrolled moment request
 
--- however a run of connections ended: all but the last of them are added, and of the last whatever it got to.
--- That differs nowhere, and leaves what the run left, once it has caught up with what is written there
+-- however the connections xs ended: the journal gets the entries of all but at most the last one (whole), and
+-- of that one as many as were written (rest). Their replay reports no difference, and results in the world
+-- that the desk has after a recovery from what is written there
 pub record EndsPlayed (n : Noted) (now : Option Recorded) (xs : List Exchange)
     (last : Option (List Enrolment)) (s : State) (after : DeskWorld) : Type 0 where
   pub whole : List Exchange
@@ -93,7 +98,8 @@ pub record EndsPlayed (n : Noted) (now : Option Recorded) (xs : List Exchange)
   pub finds : (found : Option World) → IsFoundServed xs last after found
       → CatchesUp found after newly_enrolled moment request left.world ⊎ IsLeftByNews after found last
 
--- and so does a desk that begins with what is found then; or of the last news an operator could not be listed
+-- the same, and a desk that starts with the content `found` comes to that world too; or an operator of the
+-- last new enrolments could not be enrolled
 pub record EndsFound (n : Noted) (now : Option Recorded) (xs : List Exchange) (last : Option (List Enrolment))
     (s : State) (after : DeskWorld) (found : Option World) : Type 0 where
   pub ended : EndsPlayed n now xs last s after

@@ -1,5 +1,4 @@
--- Recording: what a record is asked to keep, in its order, and what a port reports whose connections are
--- kept.
+-- Recording: the steps of a journal in their order, and what a port reports whose connections are recorded.
 use Rattle.std.specs.Prelude.{◌≡◌, ◌⊎◌, ⊤, ℕ, ℤ, Bool, true, false, List, [], ◌∷◌, ◌++◌, Option, None, Some, option_map, Result, Ok, Err}
 use Rattle.std.specs.Option.{IsSomeAnd}
 use Rattle.desk_cli.specs.declared.line.Enrolment.{Enrolment}
@@ -14,24 +13,24 @@ use Rattle.desk_recording.specs.declared.record.Exchange.{Exchange}
 use Rattle.desk_recording.specs.Receiving.{IsReceived}
 use Rattle.std.specs.Io.KnownBytes.{Appends}
 
--- a step: operators are enrolled; a request is taken at a moment (no bytes stand for a connection of which no
--- whole request came); the answer of a connection is kept; or it can't be
+-- a step of a journal: new enrolments are recorded; a request is recorded, decided at a moment (no bytes if
+-- no whole request came); the answer of a connection is recorded; or it is lost
 pub data Step : Type 0 where
   Enrolled : List Enrolment → Step
   Asked : ℤ → List ℕ → Step
   Answered : Parting → Step
   Lost : Parting → Step
 
--- known steps are followed by one more
+-- if the steps before (old) are known, the steps after (new) are those and then this one
 abbrev pub AddsStep : Option (List Step) → Option (List Step) → Step → Type 0
 AddsStep old new step = new ≡ option_map (λ steps. steps ++ step ∷ []) old
 
--- one step more is made, or none
+-- this step is added, or none is, by the flag
 abbrev pub AddsIf : Option (List Step) → Option (List Step) → Bool → Step → Type 0
 AddsIf old new true step = AddsStep old new step
 AddsIf old new false step = new ≡ old
 
--- the news, the connections that were taken, and those that were closed, of these steps
+-- the new enrolments of these steps
 abbrev pub news_in : List Step → List (List Enrolment)
 news_in [] = []
 news_in (Enrolled newly_enrolled ∷ steps) = newly_enrolled ∷ news_in steps
@@ -39,6 +38,7 @@ news_in (Asked moment bytes ∷ steps) = news_in steps
 news_in (Answered parting ∷ steps) = news_in steps
 news_in (Lost parting ∷ steps) = news_in steps
 
+-- the connections that were taken by these steps
 abbrev pub arrivals_in : List Step → List Arrival
 arrivals_in [] = []
 arrivals_in (Enrolled newly_enrolled ∷ steps) = arrivals_in steps
@@ -46,6 +46,7 @@ arrivals_in (Asked moment bytes ∷ steps) = arrived moment (Some bytes) ∷ arr
 arrivals_in (Answered parting ∷ steps) = arrivals_in steps
 arrivals_in (Lost parting ∷ steps) = arrivals_in steps
 
+-- the connections that were closed by these steps
 abbrev pub partings_in : List Step → List Parting
 partings_in [] = []
 partings_in (Enrolled newly_enrolled ∷ steps) = partings_in steps
@@ -53,7 +54,7 @@ partings_in (Asked moment bytes ∷ steps) = partings_in steps
 partings_in (Answered parting ∷ steps) = parting ∷ partings_in steps
 partings_in (Lost parting ∷ steps) = parting ∷ partings_in steps
 
--- what a port reports whose record has made these steps, and what it has recorded
+-- what a port reports whose journal has made these steps, if they are known, and has this text
 abbrev pub traffic_of : Option (List Step) → Option Recorded → Traffic
 traffic_of None recorded = record unreported { recorded = recorded }
 traffic_of (Some steps) recorded = record {
@@ -64,17 +65,17 @@ traffic_of (Some steps) recorded = record {
   recorded = recorded;
 }
 
--- the text is this
+-- the text of a journal is this
 abbrev pub HasText : Option Noted → List ℕ → Type 0
 HasText now text = option_map (λ n. n.text) now ≡ Some text
 
--- something is noted, or the text stays as it is
+-- if the text is known: it is extended as `next` says, or, if that failed, it is the one before
 abbrev pub Notes : Option Noted → Option Noted → Bool → (Noted → Noted) → Type 0
 Notes None now done next = ⊤
 Notes (Some n) now true next = now ≡ Some (next n)
 Notes (Some n) now false next = HasText now n.text
 
--- the same; but what isn't reported as noted may stand in the text all the same
+-- the same; but after a failure the text may be extended all the same
 abbrev pub NotesOnDisk : Option Noted → Option Noted → Bool → (Noted → Noted) → Type 0
 NotesOnDisk None now done next = ⊤
 NotesOnDisk (Some n) now true next = now ≡ Some (next n)
@@ -84,13 +85,14 @@ NotesOnDisk (Some n) now false next = HasText now n.text ⊎ HasText now (next n
 abbrev pub parting_of : Exchange → Parting
 parting_of connection = parted (Some connection.unread.now) (Some connection.sent.now) connection.outcome
 
--- the bytes are sent; or their writing to a client of this type broke off, and the first ones are
+-- the bytes are sent; or the write to the client broke off, and only the first ones are
 abbrev pub Sends : {W : Type 0} → List ℕ → Option (List ℕ) → Option (List ℕ) → Result ⊤ (WriteError W)
     → Type 0
 Sends bytes out now (Ok done) = Appends out now bytes
 Sends bytes out now (Err cut) = BreaksOff bytes out now cut.fault
 
--- a client is sent the answer that is kept; or it can't be kept, and the client is sent that the desk failed
+-- the answer is recorded, and the client is sent it; or it is lost, and the client is sent a 500 with the
+-- error `store`. The last argument is the result of sending
 abbrev pub SendsKept : {W : Type 0} → Course (Option (List Step)) → Parting → Course (Option (List ℕ))
     → Result ⊤ (WriteError W) → Type 0
 SendsKept steps parting writes sent = (AddsStep steps.before steps.after (Answered parting)
@@ -98,7 +100,7 @@ SendsKept steps parting writes sent = (AddsStep steps.before steps.after (Answer
     ⊎ (AddsStep steps.before steps.after (Lost parting)
     × Sends (server_error_text Store) writes.before writes.after sent)
 
--- a client: the bytes that it sent and that are left unread, and those that it was sent
+-- a client: those of its bytes that are still unread, and the bytes that it was sent
 pub record Client : Type 0 where
   pub unread : Option (List ℕ)
   pub sent : Option (List ℕ)
@@ -106,7 +108,7 @@ pub record Client : Type 0 where
 abbrev pub client_of : Option (List ℕ) → Option (List ℕ) → Client
 client_of unread sent = record { unread = unread; sent = sent }
 
--- a client of this type is sent what is kept of its connection, and that is closed
+-- a client is sent its recorded answer, or a 500, and then its connection is closed at the port below
 pub record IsClosedBy (W : Type 0) (steps : Course (Option (List Step))) (parting : Parting) (client : Client)
     (port : Course Traffic) : Type 0 where
   pub now : Option (List ℕ)
@@ -114,7 +116,8 @@ pub record IsClosedBy (W : Type 0) (steps : Course (Option (List Step))) (partin
   pub sends : SendsKept steps parting (course client.sent now) sent
   pub closes : Closes port.before port.after (parted client.unread now parting.outcome)
 
--- the bytes that are kept as a request are those of one that a client sent; or none, where it sent none whole
+-- a connection is taken from the port below, and the request is the one that its client sent; or it is empty,
+-- if the client sent no whole one
 pub record IsTakenFrom (moment : ℤ) (request : List ℕ) (failed : Bool) (left : Option (List ℕ))
     (port : Course Traffic) : Type 0 where
   pub sent : Option (List ℕ)

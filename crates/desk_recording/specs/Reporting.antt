@@ -1,4 +1,4 @@
--- Reporting: what a port reports whose connections are kept, by its record.
+-- Reporting: what a port reports whose connections are recorded, by its journal.
 use Rattle.std.specs.Prelude.{⊤, Bool, true, false, Option, Some, option_map, Result, Ok, Err}
 use Rattle.std.specs.Option.{is_some}
 use Rattle.std.specs.Io.Cursor.{cursor_remaining}
@@ -13,34 +13,37 @@ use Rattle.desk_recording.specs.declared.record.Record.{Ghosts}
 use Rattle.desk_recording.specs.declared.streams.Given.{Given}
 use Rattle.desk_recording.specs.declared.streams.Held.{Held}
 
--- what was noted, by whether the port is broken
+-- the journal with this text: open, or ended if the port is broken
 abbrev pub recorded_as : Bool → Noted → Recorded
 recorded_as false n = Open n
 recorded_as true n = Ended n.text
 
+-- the same, if the text is known
 abbrev pub recorded_by : Bool → Option Noted → Option Recorded
 recorded_by is_broken noted = option_map (λ n. recorded_as is_broken n) noted
 
--- what a port reports, by its record and by whether it is broken
+-- what a port reports, by its journal and by whether it is broken
 abbrev pub reported_by : {R F : Type 0} → Ghosts R F → R → Bool → Traffic
 reported_by g journal is_broken =
     traffic_of (g.steps journal) (recorded_by is_broken (g.noted journal))
 
+-- what this port reports
 abbrev pub reported_of : {P R F : Type 0} → Ghosts R F → RecordedPort P R → Traffic
 reported_of g port = reported_by g port.journal (is_some port.broken)
 
--- a failure of the port below: it keeps nothing itself, so what it can't keep is no loss of this record
+-- the error for an error of the port below: `Broken` becomes `Network`, since it is not this port's journal
+-- that is broken
 abbrev pub failure_below : ErrorCode → ErrorCode
 failure_below Broken = Network
 failure_below f = f
 
--- how a connection was closed, by whether something is lost, and by how the port below closed it
+-- the result of closing a connection: `Broken` if the journal is broken; else that of the port below
 abbrev pub closed_as : Bool → Result ⊤ ErrorCode → Result ⊤ ErrorCode
 closed_as true closed = Err Broken
 closed_as false (Ok done) = Ok done
 closed_as false (Err f) = Err (failure_below f)
 
--- a connection as it is closed, by the request that was kept of it and the answer that is held
+-- a connection as it is closed, by its buffered request (input) and its buffered answer (output)
 abbrev pub parted_in : {I O : Type 0} → Given I → Held O → ExchangeEnd → Parting
 parted_in input output outcome =
     parted (cursor_remaining (λ v. Some v.items) input.request) (Some output.answer.items) outcome

@@ -1,4 +1,4 @@
--- Tail: what the last record of a folder leaves to do (docs/journal-format.md).
+-- Tail: what the last journal of a folder says, and what it leaves pending (docs/journal-format.md).
 use Rattle.std.specs.Prelude.{◌≡◌, ◌⊎◌, ⊤, ℕ, ◌+◌, ◌-◌, ◌^◌, ◌==◌, ◌&&◌, ◌||◌, min, length, is_none, is_some, nat_le, nat_lt, List, [], ◌∷◌, ◌++◌, Bool, true, false, not, if◌then◌else◌, Option, Some, None, IfSome, option_and_then, Result, Ok, Err}
 use Rattle.std.specs.List.{AllByRecursion}
 use Rattle.std.specs.Str.{bytes_eq}
@@ -22,14 +22,14 @@ use Rattle.desk_recording.specs.declared.tail.TailEnd.TheVariants.{End, Short, D
 use Rattle.desk_recording.specs.declared.tail.TailFault.{TailFault}
 use Rattle.desk_recording.specs.declared.tail.TailFault.TheVariants.{Read, OutOfMemory, NoRecord}
 
--- a request that has no answer, or one that says that the desk failed
+-- a request that has no answer, or a 500
 pub record UnansweredParts : Type 0 where
   pub second : ℕ
   pub request : List ℕ
 
--- what a record says so far: its number, if it has begun, and its terms; the operators behind its last
--- request; that request, if it has no answer, or one that says that the desk failed; and how many bytes that
--- is
+-- what the entries of a journal say so far: its number, if it has begun; its permitted priorities and its
+-- settings; the operators enrolled after its last request; that request, if it has no answer, or a 500; and
+-- how many bytes the entries have
 pub record TailParts : Type 0 where
   pub record_number : Option ℕ
   pub permitted : List ℕ
@@ -38,6 +38,7 @@ pub record TailParts : Type 0 where
   pub asked : Option UnansweredParts
   pub size : ℕ
 
+-- the parts of the program's value
 abbrev pub unanswered_shown : PendingRequest → UnansweredParts
 unanswered_shown u = record { second = u.second; request = u.request.items }
 
@@ -45,6 +46,7 @@ abbrev pub unanswered_in : Option PendingRequest → Option UnansweredParts
 unanswered_in None = None
 unanswered_in (Some u) = Some (unanswered_shown u)
 
+-- the parts of the program's value
 abbrev pub tail_shown : Tail → TailParts
 tail_shown t = record {
   record_number = t.record;
@@ -55,7 +57,7 @@ tail_shown t = record {
   size = t.size;
 }
 
--- nothing was read
+-- what no entries say
 abbrev pub nothing_said : TailParts
 nothing_said = record {
   record_number = None;
@@ -66,39 +68,45 @@ nothing_said = record {
   size = 0;
 }
 
--- what an entry adds to what a record says; none if no desk writes it there
+-- what the entries say with one more; none if no desk writes that entry at its place
 abbrev pub Said : Type 0
 Said = Option TailParts
 
+-- none if the test holds
 abbrev pub none_if : Bool → Said → Said
 none_if test next = if test then None else next
 
+-- with the header: it is the first entry, and has the version of the format
 unfoldable pub said_record : TailParts → ℕ → List ℕ → Said
 said_record t n bytes =
     none_if (is_some t.record_number || not (bytes_eq bytes version))
     (Some (record t { record_number = Some n }))
 
--- a priority is permitted beside the others
+-- with the permitted priorities `more`, by whether they are valid together
 abbrev pub said_permitted_by : TailParts → List ℕ → Result (List ℕ) PermitFault → Said
 said_permitted_by t more (Err fault) = None
 said_permitted_by t more (Ok permitted) =
     Some (record t { permitted = more; terms = record t.terms { permitted = permitted } })
 
+-- with one more permitted priority
 unfoldable pub said_permitted : TailParts → ℕ → Said
 said_permitted t p =
     none_if (nat_lt max_priority p)
     (said_permitted_by t (t.permitted ++ (p ∷ [])) (permitted_in (t.permitted ++ (p ∷ []))))
 
+-- with a limit on spans
 unfoldable pub said_spans : TailParts → ℕ → Said
 said_spans t n =
     none_if (not (nat_le 1 n && nat_le n max_spans))
     (Some (record t { terms = record t.terms { spans = Some n } }))
 
+-- with a limit on cells
 unfoldable pub said_cells : TailParts → ℕ → Said
 said_cells t n =
     none_if (not (nat_le 1 n && nat_le n max_total_cells))
     (Some (record t { terms = record t.terms { cells = Some n } }))
 
+-- with one more operator
 unfoldable pub said_operator : TailParts → ℕ → List ℕ → Said
 said_operator t ceiling name =
     none_if (not (is_operator_name name)) (none_if (nat_lt max_priority ceiling)
@@ -106,7 +114,7 @@ said_operator t ceiling name =
       operators = t.operators ++ (record { operator = name; ceiling = ceiling } ∷ []);
     })))
 
--- a request is recorded: the operators before it are listed by then
+-- with a request: the operators before it are dropped, since the desk has enrolled them
 unfoldable pub said_request : TailParts → ℕ → List ℕ → Said
 said_request t second request =
     none_if (is_some t.asked) (none_if (nat_lt last_moment second)
@@ -115,19 +123,22 @@ said_request t second request =
       asked = Some (record { second = second; request = request });
     })))
 
--- its answer is recorded: a failure is none
+-- with the answer to the pending request, at the same second; after a 500 the request stays pending
 abbrev pub said_answer_to : TailParts → Option UnansweredParts → ℕ → List ℕ → Said
 said_answer_to t None second answer = None
 said_answer_to t (Some u) second answer =
     none_if (not (u.second == second))
     (if is_failure answer then Some t else Some (record t { asked = None }))
 
+-- with an answer to the last request
 unfoldable pub said_answer : TailParts → ℕ → List ℕ → Said
 said_answer t second answer = said_answer_to t t.asked second answer
 
+-- none if the entry has bytes of its own
 abbrev pub said_bare : List ℕ → Said → Said
 said_bare bytes next = none_if (not (length bytes == 0)) next
 
+-- with one more entry, by its kind, its number and its bytes
 abbrev pub said_within : Kind → TailParts → ℕ → List ℕ → Said
 said_within kind.Record t n bytes = said_record t n bytes
 said_within kind.Permitted t n bytes = said_bare bytes (said_permitted t n)
@@ -137,6 +148,7 @@ said_within kind.Operator t n bytes = said_operator t n bytes
 said_within kind.Request t n bytes = said_request t n bytes
 said_within kind.Answer t n bytes = said_answer t n bytes
 
+-- the kind is that of the header
 abbrev pub is_first_kind : Kind → Bool
 is_first_kind kind.Record = true
 is_first_kind kind.Permitted = false
@@ -146,59 +158,61 @@ is_first_kind kind.Operator = false
 is_first_kind kind.Request = false
 is_first_kind kind.Answer = false
 
--- how many bytes of a record were read, as many as 64 bits hold at most
+-- with so many more bytes counted; the count saturates at 2^64 - 1
 abbrev pub grown : TailParts → ℕ → TailParts
 grown t more = record t { size = min (t.size + more) (2 ^ 64 - 1) }
 
--- nothing else begins a record
+-- with one more entry; the first one is the header
 unfoldable pub said : TailParts → EntryParts → Said
 said t e =
     none_if (is_none t.record_number && not (is_first_kind e.kind))
     (said_within e.kind (grown t (length (entry e))) e.number e.bytes)
 
--- what entries say, one after the other
+-- with more entries, one after the other
 unfoldable pub said_by : TailParts → List EntryParts → Said
 said_by t [] = Some t
 said_by t (e ∷ es) = option_and_then (λ u. said_by u es) (said t e)
 
--- an entry is noted; or memory ran out, or no desk writes it there
+-- the result of applying an entry: what the entries say is `new` now; or memory ran out; or no desk writes
+-- that entry there
 abbrev pub Notes : Result ⊤ TailFault → Said → TailParts → Type 0
 Notes (Ok done) outcome new = outcome ≡ Some new
 Notes (Err fault) outcome new = (fault ≡ OutOfMemory) ⊎ ((fault ≡ NoRecord) × (outcome ≡ None))
 
--- what stands behind the last whole entry: nothing; the beginning of one, and no more; or what is no entry
+-- what follows the last whole entry: nothing; a truncated entry; or something else
 abbrev pub EndsIn : TailEnd → Option (List ℕ) → Type 0
 EndsIn End left = IsAtEnd left
 EndsIn Short left = IfSome left IsTooShort
 EndsIn Damaged left = IfSome left IsDamagedRecord
 
--- the first entries that were read say this
+-- the entries that were read from old to new say t
 pub record HasSaid (old new : Option (List ℕ)) (t : TailParts) : Type 0 where
   pub all : List EntryParts
   pub fit : AllByRecursion Fits all
   pub read : Consumes old new (entries all)
   pub are : said_by nothing_said all ≡ Some t
 
--- one entry is read, and says this; or this is what stands there; or why neither is reported
+-- one entry is read, and takes s, what the entries before say, to t
 pub record IsSaid (old new : Option (List ℕ)) (s t : TailParts) : Type 0 where
   pub one : EntryParts
   pub fits : Fits one
   pub read : Consumes old new (entry one)
   pub is : said s one ≡ Some t
 
+-- one entry is read that no desk writes after entries that say s
 pub record IsUnsaid (old new : Option (List ℕ)) (s : TailParts) : Type 0 where
   pub one : EntryParts
   pub fits : Fits one
   pub read : Consumes old new (entry one)
   pub none : said s one ≡ None
 
--- all that is whole was read
+-- all whole entries were read, and say t; and this is what follows them
 pub record IsTail (old : Option (List ℕ)) (ended : TailEnd) (t : TailParts) : Type 0 where
   pub mid : Option (List ℕ)
   pub first : HasSaid old mid t
   pub ends : EndsIn ended mid
 
--- an entry is read that no desk writes there
+-- some entries were read, and then one that no desk writes there
 pub record IsNoRecord (old : Option (List ℕ)) : Type 0 where
   pub mid : Option (List ℕ)
   pub new : Option (List ℕ)
@@ -206,12 +220,13 @@ pub record IsNoRecord (old : Option (List ℕ)) : Type 0 where
   pub first : HasSaid old mid t
   pub unsaid : IsUnsaid mid new t
 
--- why no tail is reported: a read failed, memory ran out, or this is no record of a desk
+-- why no tail is returned: a read failed; memory ran out; or there is an entry that no desk writes there
 abbrev pub HasNoTail : Option (List ℕ) → TailFault → Type 0
 HasNoTail old Read = ⊤
 HasNoTail old OutOfMemory = ⊤
 HasNoTail old NoRecord = IsNoRecord old
 
+-- the result of reading the next entry: it is applied; or this follows the last whole entry; or an error
 abbrev pub StepsTail :
     Result (Option TailEnd) TailFault → Option (List ℕ) → Option (List ℕ) → TailParts → TailParts → Type 0
 StepsTail (Ok None) old new s t = IsSaid old new s t

@@ -15,15 +15,15 @@ use desk_rules::permission::Permitted;
 use desk_rules::terms::Terms;
 use std::alloc::{AllocError, Global};
 
-/// The version of the format.
+/// The version of the journal format, as the first entry has it.
 const VERSION: &[u8] = b"1";
 
 /// Writes the first entries of the journal file `number` of its folder: the version, the settings of the desk
-/// and its operators. They are flushed to the disk.
+/// (`terms`) and its `operators`. They are flushed to the disk.
 ///
 /// # Errors
 ///
-/// As `AppendError` says.
+/// As `AppendError` says. A part of the entries may be in the file then.
 pub fn write_header<J: Journal>(
     alloc: Global,
     journal: &mut J,
@@ -41,7 +41,7 @@ pub fn write_header<J: Journal>(
     sync_to(journal)
 }
 
-// The text of these first entries.
+// The text of these first entries. Fails if memory runs out.
 fn header_text(
     alloc: Global,
     number: u64,
@@ -59,7 +59,8 @@ fn header_text(
     Ok(text)
 }
 
-// Appends an entry for each permitted priority.
+// Appends an entry to `text` for each `permitted` priority (0 to 1,000), in ascending order. If memory runs
+// out, some of them may be appended.
 fn write_permitted(text: &mut Vec<u8>, permitted: &Permitted) -> Result<(), AllocError>
     ensures { OnOk result (text.new.items ≡ text.old.items
         ++ entries (permitted_below 1001 permitted.now)) }
@@ -70,7 +71,7 @@ fn write_permitted(text: &mut Vec<u8>, permitted: &Permitted) -> Result<(), Allo
     Ok(())
 }
 
-// Appends an entry for `priority`, if that is permitted.
+// Appends an entry for `priority` to `text` if that is among the `permitted` ones; else nothing.
 fn write_if_permitted(
     text: &mut Vec<u8>,
     permitted: &Permitted,
@@ -86,22 +87,22 @@ fn write_if_permitted(
     }
 }
 
-// Appends an entry for a limit, if there is one.
-fn write_limit(text: &mut Vec<u8>, kind: Kind, most: Option<u32>) -> Result<(), AllocError>
+// Appends an entry of this `kind` (`Spans` or `Cells`) to `text` for the `limit`, if there is one.
+fn write_limit(text: &mut Vec<u8>, kind: Kind, limit: Option<u32>) -> Result<(), AllocError>
     ensures { OnOk result (text.new.items ≡ text.old.items
-        ++ entries (map (limit_entry kind) (option_to_list most))) }
+        ++ entries (map (limit_entry kind) (option_to_list limit))) }
 {
-    match most {
-        Some(most) => write_entry(text, kind, u64::from(most), b""),
+    match limit {
+        Some(limit) => write_entry(text, kind, u64::from(limit), b""),
         None => Ok(()),
     }
 }
 
-/// Appends an entry for each operator, in their order.
+/// Appends an entry for each operator to `text`, in their order.
 ///
 /// # Errors
 ///
-/// `AllocError` if memory runs out.
+/// `AllocError` if memory runs out: some of them may be appended.
 pub(crate) fn write_operators(text: &mut Vec<u8>, operators: &[Enrolment]) -> Result<(), AllocError>
     ensures { OnOk result (text.new.items ≡ text.old.items
         ++ entries (map operator_entry operators.now)) }

@@ -31,18 +31,18 @@ pub(crate) enum InputEnd<R, W> {
     AtEnd,
     /// The input ends inside a request.
     CutShort,
-    /// The input could not be read.
+    /// A read of the input failed.
     Unread(ReceiveError<R>),
     /// Memory ran out.
     OutOfMemory,
-    /// It isn't known where the next request begins.
+    /// It isn't known where the next request begins: the desk didn't read the last one to its end.
     Unframed,
     /// The output could not be written.
     AppendError(WriteError<W>),
 }
 
 impl<R, W> InputEnd<R, W> {
-    // The result of the command that ends so.
+    // The result of the command `play` when its input ends so.
     fn exit_result(self) -> Result<(), ErrorCode>
         ensures { result ≡ spec.reported_as self }
     {
@@ -57,8 +57,8 @@ impl<R, W> InputEnd<R, W> {
     }
 }
 
-/// A port whose connections are the requests of `input`, one after the other, all at the same `moment`. Their
-/// answers go to `output`.
+/// A port whose connections are the requests of `input`, one after the other, all decided at the same
+/// `moment`. Their answers go to `output`.
 #[derive(Drop)]
 pub struct InputPort<R: Drop, W: Drop> {
     input: R,
@@ -71,7 +71,7 @@ pub struct InputPort<R: Drop, W: Drop> {
 }
 
 impl<R: Read + Drop, W: Write + Drop> InputPort<R, W> {
-    /// A port over `input` and `output`.
+    /// A port over `input` and `output`, from which no request was taken yet. All are decided at `moment`.
     pub fn new(input: R, output: W, moment: Moment) -> InputPort<R, W>
         ensures input { result.input ≡ input }
         ensures output { result.output ≡ output }
@@ -88,7 +88,10 @@ impl<R: Read + Drop, W: Write + Drop> InputPort<R, W> {
         }
     }
 
-    // The result of `play`: why the input ended; else the error of `done`; else `Unframed` or `Limit`.
+    // The result of `play`, where `done` is the result of serving the port. If the input has ended or the
+    // output failed (`ended`), that decides: `Ok` at the end of the input. Else the error of `done` does.
+    // Else as many requests were answered as one command answers: `Unframed` if the last one wasn't read to
+    // its end, or `Limit`.
     fn final_result(&self, done: Result<(), ErrorCode>) -> Result<(), ErrorCode>
         ensures { result
             ≡ spec.ended_by (option_map spec.reported_as self.now.ended) self.now.is_unframed done }
@@ -107,7 +110,7 @@ impl<R: Read + Drop, W: Write + Drop> Port for InputPort<R, W> {
 
     type Output = Vec<u8>;
 
-    // Does nothing: an input needs no network.
+    // Does nothing, and succeeds: an input needs no network.
     fn listen(&mut self, _number: u16) -> Result<(), ErrorCode>
         ensures listens { Listens unreported unreported _number (is_ok result) }
         ensures fault { IfErr result IsDenied }
@@ -117,7 +120,7 @@ impl<R: Read + Drop, W: Write + Drop> Port for InputPort<R, W> {
         Ok(())
     }
 
-    // There are no new enrolments while `play` runs.
+    // The empty list: there are no new enrolments while `play` runs.
     fn newly_enrolled(&mut self, alloc: Global) -> Result<Vec<Enrolment>, ErrorCode>
         ensures small { IfOk result (λ newly_enrolled. AreEnrolments newly_enrolled.items) }
         ensures brings { IfOk result (λ newly_enrolled.
@@ -130,7 +133,8 @@ impl<R: Read + Drop, W: Write + Drop> Port for InputPort<R, W> {
         Ok(Vec::new(alloc))
     }
 
-    // Reads the next request of the input. `Network` if there is none, and `ended` says why.
+    // Reads the next request of the input. If there is none, the error is `Network`, and `ended` says why:
+    // from then on nothing more is read.
     // Long: what a port reports, which request of the input is taken, and when the input has ended.
     fn take(&mut self, alloc: Global) -> Result<ClientStream<Cursor<Vec<u8>>, Vec<u8>>, ErrorCode>
         ensures taken { IfOk result (λ c. TakesArrival unreported unreported
@@ -164,7 +168,9 @@ impl<R: Read + Drop, W: Write + Drop> Port for InputPort<R, W> {
         }
     }
 
-    // Writes the answer to the output, and notes whether it is known where the next request begins.
+    // Writes the answer (`output`) to the port's output, and notes whether it is known where the next request
+    // begins: it is if the last one was read whole (`outcome`). A failed write isn't an error here: it is
+    // noted in `ended`, and no more requests are read.
     fn close(
         &mut self,
         input: Cursor<Vec<u8>>,
@@ -190,7 +196,8 @@ impl<R: Read + Drop, W: Write + Drop> Port for InputPort<R, W> {
     }
 }
 
-// Reads the next request, or says why there is none.
+// Reads the next request, or returns why there is none. If `is_unframed`, it isn't known where that begins,
+// and nothing is read.
 fn next_request<R: Read, W>(
     alloc: Global,
     is_unframed: bool,
@@ -212,9 +219,10 @@ fn next_request<R: Read, W>(
     }
 }
 
-/// Carries out `play` with a journal at the desk `opened`: each request is recorded before it is carried out,
-/// and its answer before it is written. Returns the exit status and the desk. An error code goes to `errors`;
-/// a write error there doesn't change the status.
+/// Carries out the command `play` with a journal at the desk `opened`: each request that comes from `port` is
+/// recorded before it is carried out, and its answer before it is written. Returns the exit report and the
+/// desk, if there is one. If no desk was opened, only that error code is reported. An error code goes to
+/// `errors`; a failed write there is ignored.
 pub fn play_opened<S, R, W, K, E>(
     alloc: Global,
     play: &PlayArgs,
@@ -243,7 +251,8 @@ where
     }
 }
 
-// Carries out `play` with a journal at an open desk.
+// Carries out `play` with a journal at an open desk. An error code goes to `errors`; a failed write there is
+// ignored.
 fn play_recorded<S: PlanStore, R: Read + Drop, W: Write + Drop, K: Record + Drop, E: Write>(
     alloc: Global,
     play: &PlayArgs,

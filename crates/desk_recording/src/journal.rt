@@ -11,7 +11,7 @@ pub trait Journal {
     /// Why a call failed. Generic code can get one only from a call that failed.
     type Fault: Drop;
 
-    /// The appends and syncs so far, in their order, if they are known.
+    /// The appends and syncs so far, the failed ones too, in their order; `None` if they aren't known.
     ghost writes: { Self → Option (List Write) } = { λ _. None };
 
     /// Appends bytes.
@@ -22,16 +22,16 @@ pub trait Journal {
     fn append(&mut self, bytes: &[u8]) -> Result<(), Self::Fault>
         ensures { MakesWrite (writes self.old) (writes self.new) (is_ok result) (Appended bytes.now) };
 
-    /// Flushes all that was appended to the disk (fsync).
+    /// Flushes all that was appended so far to the disk (fsync).
     ///
     /// # Errors
     ///
-    /// What failed.
+    /// What failed. It isn't known then how much of it is on the disk.
     fn sync(&mut self) -> Result<(), Self::Fault>
         ensures { MakesWrite (writes self.old) (writes self.new) (is_ok result) Synced };
 }
 
-/// Why entries could not be written; `F` is the error of the file.
+/// Why entries could not be written; `F` is the file's own error.
 #[derive(Drop)]
 pub enum AppendError<F> {
     /// Memory ran out.
@@ -55,7 +55,7 @@ impl<F> From<AllocError> for AppendError<F> {
 ///
 /// # Errors
 ///
-/// `Journal`.
+/// `Journal` if the file fails. Any prefix of `bytes` may be appended then.
 pub(crate) fn append_to<J: Journal>(
     journal: &mut J,
     bytes: &[u8],
@@ -74,7 +74,7 @@ pub(crate) fn append_to<J: Journal>(
 ///
 /// # Errors
 ///
-/// `Journal`.
+/// `Journal` if the file fails.
 pub(crate) fn sync_to<J: Journal>(journal: &mut J) -> Result<(), AppendError<J::Fault>>
     ensures done { MakesWrite (J.writes journal.old) (J.writes journal.new) (is_ok result) Synced }
     ensures fault { IfErr result IsOfJournal }

@@ -14,10 +14,10 @@ ghost use Rattle.desk_recording.specs.Played.{AddsOpen, EndsFound, EndsPlayed, I
 
 use desk_wire::laws::request_ends;
 
-/// Recorded: take a port with an open journal and a desk that serves all connections that it was to serve (by
-/// the clause `served` of `serve`). Then the journal gets just the entries of these connections, each request
-/// with its answer, and stays open. A replay of them in the state in which the desk began reports no
-/// difference, and results in the desk's state at the end.
+/// The promise Recorded: a desk at a port with an open journal serves all connections that it was to serve
+/// (the clause `served` of `serve`). Then the journal gets just the entries of these connections, each
+/// request with its answer, and stays open. Their replay from the state in which the desk began (`w`, which
+/// is that of the replay `s`) reports no difference, and results in the desk's state at the end (`after`).
 pub fn recorded()
     ensures { (doubt count : ℕ) (port : Course Traffic) (w after : DeskWorld) (n : Noted) (s : State) →
         IsHonest doubt → (taken : AreTaken {A = ⊤} (IsHonest doubt) (Ok tt) count port w after) →
@@ -27,10 +27,10 @@ pub fn recorded()
     request_ends();
 }
 
-/// Recorded, however the desk stopped serving: the journal has the entries of all connections but the last,
-/// then those that were written for the last and for new enrolments, and perhaps a truncated one. Their
-/// replay reports no difference. It results in the desk's state after a recovery: after the operators are
-/// enrolled and the request is carried out that the journal has and the desk has not.
+/// The promise Recorded, however the desk stopped serving (`done`). The journal has the entries of all
+/// connections but the last, then those that were written for the last and for new enrolments, and perhaps a
+/// truncated one. Their replay reports no difference. It results in the state that the desk has after a
+/// recovery: the operators and the request that only the journal has are enrolled and carried out then.
 pub fn recorded_to_the_end()
     ensures { (doubt count : ℕ) (done : Result ⊤ ErrorCode) (port : Course Traffic) (w after : DeskWorld)
         (n : Noted) (s : State) → IsHonest doubt →
@@ -41,11 +41,11 @@ pub fn recorded_to_the_end()
     request_ends();
 }
 
-/// Recorded, joined with Kept and Repeated: take what a start finds, however the desk stopped serving (by the
-/// clause `kept` of `serve`), and the same terms. After a recovery from it the desk has the state in which a
-/// replay of the journal results, from the state in which the desk began. The recovery enrols the operators
-/// and carries out the request that follow the last answer, even if that was done before. The exception: an
-/// operator of the last new enrolments could not be enrolled.
+/// The promises Recorded, Kept and Repeated together. However the desk stopped serving, take the content that
+/// the next start finds (`found`, by the clause `kept` of `serve`), and the same terms. After a recovery the
+/// desk has the state that results from a replay of the journal, from the state in which the desk began. The
+/// recovery enrols the operators and carries out the request that follow the last answer, even if that was
+/// done before. The exception: an operator of the last new enrolments could not be enrolled.
 pub fn recorded_and_kept()
     ensures { (doubt count : ℕ) (done : Result ⊤ ErrorCode) (port : Course Traffic) (w after : DeskWorld)
         (n : Noted) (s : State) (found : Option World) → IsHonest doubt →

@@ -34,17 +34,17 @@ const UNANSWERED: ExchangeEnd = ExchangeEnd {
     is_answered: false,
 };
 
-/// Why a port accepts no more connections; `R` is its journal.
+/// Why a recorded port accepts no more connections; `R` is its journal.
 #[derive_where(Clone, Copy)]
 pub(crate) enum StopCause<R> {
     /// An entry could not be written to the journal.
     JournalError(RecordFault<R>),
-    /// A request got no whole answer.
+    /// A request got no whole answer from the desk, so none could be recorded.
     NoAnswer,
 }
 
-/// A port that flushes each request to its journal before the desk reads it, and appends each answer before
-/// it is sent. Once an entry can't be written, it accepts no more connections.
+/// A port over another one. It flushes each request to its journal before the desk reads it, and appends each
+/// answer before it is sent. Once an entry can't be written, it accepts no more connections.
 #[derive(Drop)]
 pub struct RecordedPort<P: Drop, R: Drop> {
     pub(crate) port: P,
@@ -54,7 +54,7 @@ pub struct RecordedPort<P: Drop, R: Drop> {
 }
 
 impl<P: Port + Drop, R: Record + Drop> RecordedPort<P, R> {
-    /// A port over `port` whose connections are recorded in `journal`.
+    /// A port that records the connections of `port` in `journal`.
     pub fn new(port: P, journal: R) -> RecordedPort<P, R>
         ensures port { result.port ≡ port }
         ensures journal { result.journal ≡ journal }
@@ -75,7 +75,7 @@ impl<P: Port + Drop, R: Record + Drop> Port for RecordedPort<P, R> {
 
     ghost traffic = { λ s. reported_of R.Record s };
 
-    // Has the port below listen.
+    // Has the port below listen at the TCP port `number`.
     fn listen(&mut self, number: u16) -> Result<(), ErrorCode>
         ensures listens { Listens (reported_of R.Record self.old) (reported_of R.Record self.new) number
             (is_ok result) }
@@ -86,7 +86,8 @@ impl<P: Port + Drop, R: Record + Drop> Port for RecordedPort<P, R> {
         self.port.listen(number)
     }
 
-    // Takes the new enrolments of the port below, and writes them to the journal before they are made.
+    // Takes the new enrolments of the port below, and writes them to the journal before the desk makes them.
+    // `Broken` if an entry can't be written now, or couldn't before.
     #[tactic(auto, using(crate::proofs::StepLemmas::brings_news))]
     fn newly_enrolled(&mut self, alloc: Global) -> Result<Vec<Enrolment>, ErrorCode>
         ensures small { IfOk result (λ newly_enrolled. AreEnrolments newly_enrolled.items) }
@@ -116,7 +117,9 @@ impl<P: Port + Drop, R: Record + Drop> Port for RecordedPort<P, R> {
         }
     }
 
-    // Accepts a connection, reads its request, and writes that to the journal before the desk reads it.
+    // Accepts a connection, reads its request, and writes that to the journal before the desk reads it. If
+    // that write fails, the client gets a 500, and the error is `Broken`. If memory runs out, the client gets
+    // nothing.
     // Long: what the port reports, what was read from the client, and when it is broken.
     #[tactic(auto, using(crate::proofs::StepLemmas::takes_one))]
     fn take(
@@ -172,7 +175,9 @@ impl<P: Port + Drop, R: Record + Drop> Port for RecordedPort<P, R> {
         }
     }
 
-    // Writes the answer to the journal, sends it to the client, and closes the connection.
+    // Writes the answer to the journal, sends it to the client, and closes the connection. `outcome` says
+    // whether the request was read whole and answered whole. If the answer isn't whole or can't be recorded,
+    // the client gets a 500, and the error is `Broken`. A failed send is ignored.
     // Long: what the port reports, what its journal has, when it is broken, and what the client was sent.
     #[tactic(auto, using(crate::proofs::StepLemmas::closes_so, crate::proofs::StepLemmas::is_open))]
     fn close(
@@ -214,8 +219,8 @@ impl<P: Port + Drop, R: Record + Drop> Port for RecordedPort<P, R> {
     }
 }
 
-// The error that is reported for an error of the port below. `Broken` is reserved for this port's own
-// journal.
+// The error of this port for an error of the port below. `Broken` is reserved for this port's own journal, so
+// it becomes `Network`.
 fn port_error(failure: ErrorCode) -> ErrorCode
     ensures { result ≡ spec.failure_below failure }
 {
@@ -225,7 +230,8 @@ fn port_error(failure: ErrorCode) -> ErrorCode
     }
 }
 
-// The result of closing a connection: `Broken` if the journal is, else the result of the port below.
+// The result of closing a connection: `Broken` if the journal is broken (`is_lost`), else that of the port
+// below (`closed`).
 fn close_result(is_lost: bool, closed: Result<(), ErrorCode>) -> Result<(), ErrorCode>
     ensures { result ≡ spec.closed_as is_lost closed }
 {
@@ -238,8 +244,9 @@ fn close_result(is_lost: bool, closed: Result<(), ErrorCode>) -> Result<(), Erro
     }
 }
 
-// Appends the answer to the journal and then sends it. If the answer isn't whole or the journal is broken,
-// sends a 500 instead. Returns why the journal is broken, if it is, and whether all was sent.
+// Appends the answer of the `connection` to the journal and then sends it to the client. If the answer isn't
+// whole, can't be appended, or the journal was broken before (`broken`), sends a 500 instead. Returns why the
+// journal is broken now, if it is, and the result of sending.
 fn record_and_send<R: Record, W: Write>(
     journal: &mut R,
     broken: Option<StopCause<R>>,
@@ -264,8 +271,8 @@ fn record_and_send<R: Record, W: Write>(
     (lost, send_store_error(client))
 }
 
-// Appends the answer to the journal, if it is whole and the journal isn't broken. Returns why it is broken,
-// if it is.
+// Appends the answer of the `connection` to the journal, if it is whole and the journal wasn't broken before
+// (`broken`). Returns why the journal is broken now, if it is; `None` means that the answer is appended.
 fn record_answer<R: Record>(
     journal: &mut R,
     broken: Option<StopCause<R>>,
@@ -298,7 +305,8 @@ struct Received<R> {
     unread: Option<ReceiveError<R>>,
 }
 
-// Reads the request of a client. It is empty if it doesn't come whole; memory is the only error.
+// Reads the request of a client. It is empty if it doesn't come whole. Running out of memory is the only
+// error.
 fn receive_or_empty<R: Read>(alloc: Global, client: &mut R) -> Result<Received<R>, AllocError>
     ensures { IfOk result (λ received. IsReceived (is_some received.unread) (R.remaining client.old)
         (R.remaining client.new) received.request.items) }
@@ -320,7 +328,7 @@ fn receive_or_empty<R: Read>(alloc: Global, client: &mut R) -> Result<Received<R
     }
 }
 
-// Sends the answer 500 `store`: the request or its answer can't be written to the journal.
+// Sends the answer 500 with the error `store`: the request or its answer can't be written to the journal.
 fn send_store_error<W: Write>(client: &mut W) -> Result<(), WriteError<W>>
     ensures { Sends (server_error_text Store) (W.contents client.old) (W.contents client.new) result }
 {

@@ -30,7 +30,7 @@ pub(crate) enum ReceiveFault<R> {
     OutOfMemory,
 }
 
-/// Reads the bytes of one request, and nothing after it; they are empty if the client has ended.
+/// Reads the bytes of one request, and nothing after it. They are empty if the client sends nothing more.
 ///
 /// # Errors
 ///

@@ -14,7 +14,7 @@ use std::marker::PhantomData;
 /// A request and its answer on one connection.
 #[derive(Clone, Copy)]
 pub struct Exchange<'a> {
-    /// The bytes of the request that the desk did not read: none if it answered.
+    /// The bytes of the request that the desk left unread.
     pub unread: &'a [u8],
     /// The answer, or the part of it that was made.
     pub sent: &'a [u8],
@@ -22,66 +22,67 @@ pub struct Exchange<'a> {
     pub outcome: ExchangeEnd,
 }
 
-/// A request journal, to which entries are appended. An entry that can't be appended whole isn't read back.
+/// A request journal, to which entries are appended. An entry that was appended only in part isn't read back.
 pub trait Record {
     /// Why a call failed. Generic code can get one only from a call that failed.
     type Fault: Drop;
 
-    /// The steps that were written, in their order, if they are known.
+    /// What was recorded so far, step by step and in this order; `None` if it isn't known.
     ghost steps: { Self → Option (List Step) } = { λ _. None };
 
-    /// The text of the journal, and the second of the last request in it, if they are known.
+    /// The text of the journal, and the Unix second of the last request in it; `None` if they aren't known.
     ghost noted: { Self → Option Noted } = { λ _. None };
 
     /// Appends new enrolments, and flushes the journal to the disk.
     ///
     /// # Errors
     ///
-    /// What failed.
+    /// What failed. They may be in the text all the same.
     fn append_new_enrolments(&mut self, newly_enrolled: &[Enrolment]) -> Result<(), Self::Fault>
-        ensures steps { AddsIf (steps self.old) (steps self.new) (is_ok result) (Enrolled newly_enrolled.now) }
+        ensures steps { AddsIf (steps self.old) (steps self.new) (is_ok result)
+            (Enrolled newly_enrolled.now) }
         ensures noted { NotesOnDisk (noted self.old) (noted self.new) (is_ok result)
             (λ n. with_news n newly_enrolled.now) }
         ensures named { IfSome (noted self.old) (λ _. OnOk result (AreNamed newly_enrolled.now)) };
 
-    /// Appends a request received at `moment`, and flushes the journal to the disk. If `bytes` is empty, no
-    /// whole request came, and no entry is appended.
+    /// Appends a request (`bytes`) that is decided at `moment`, and flushes the journal to the disk. If
+    /// `bytes` is empty, no whole request came, and no entry is appended.
     ///
     /// # Errors
     ///
-    /// What failed.
+    /// What failed. The entry may be in the text all the same.
     fn append_request(&mut self, moment: Moment, bytes: &[u8]) -> Result<(), Self::Fault>
         ensures steps { AddsIf (steps self.old) (steps self.new) (is_ok result)
             (Asked moment.second bytes.now) }
         ensures noted { NotesOnDisk (noted self.old) (noted self.new) (is_ok result)
             (λ n. with_request n moment.second bytes.now) };
 
-    /// Appends the answer to the last request, without flushing it: it is on the disk with the next request,
-    /// and a lost answer is made again by the recovery.
+    /// Appends the answer to the last request, `connection.sent`, without flushing it. It is flushed with the
+    /// next request; if it is lost before, the recovery makes it again.
     ///
     /// # Errors
     ///
-    /// What failed.
+    /// What failed. The entry isn't in the text then.
     fn append_answer(&mut self, connection: Exchange<'_>) -> Result<(), Self::Fault>
         ensures steps { AddsIf (steps self.old) (steps self.new) (is_ok result)
             (Answered (parting_of connection.entry)) }
         ensures noted { Notes (noted self.old) (noted self.new) (is_ok result)
             (λ n. with_answer n connection.entry.sent.now) };
 
-    /// Notes that the answer to the last request isn't appended.
+    /// Notes that the answer to the last request could not be appended. The text stays as it is.
     fn note_lost_answer(&mut self, connection: Exchange<'_>)
         ensures steps { AddsStep (steps self.old) (steps self.new) (Lost (parting_of connection.entry)) }
         ensures noted { noted self.new ≡ noted self.old };
 }
 
-/// That a journal of type `R` failed. Only an error of such a journal makes one.
+/// Shows that a journal of type `R` failed: it can be made only from an error of such a journal.
 #[derive_where(Clone, Copy)]
 pub struct RecordFault<R> {
     record: PhantomData<R>,
 }
 
 impl<R: Record> RecordFault<R> {
-    /// Made of an error of the journal.
+    /// The fault, made from an error of the journal.
     pub(crate) fn by(_fault: R::Fault) -> RecordFault<R> {
         RecordFault {
             record: PhantomData,

@@ -1,4 +1,4 @@
-//! Recovery at a start: what the end of the last journal file says is done at the desk.
+//! Recovery at a start: what the last journal file left pending is done at the desk.
 
 ghost use Rattle.std.specs.Prelude.{◌≡◌, ◌≤◌, ◌⊎◌, IsTrue, IfErr, IfOk, OnOk};
 ghost use Rattle.desk_rules.specs.Limits.{max_priority};
@@ -29,14 +29,14 @@ use io_ends::Moment;
 use std::alloc::{AllocError, Global};
 use volume4d::MAX_SECOND;
 
-/// Why a recovery failed; `R` is the journal that is written meanwhile.
+/// Why a recovery failed; `R` is the new journal to which the repeated request is written.
 #[derive_where(Clone, Copy)]
 pub enum RecoveryError<R> {
     /// Memory ran out.
     OutOfMemory,
     /// The desk's store failed.
     Store,
-    /// The second of the request is out of range.
+    /// The Unix second of the request is out of range.
     Clock,
     /// The request or its answer could not be written to the journal.
     JournalError(RecordFault<R>),
@@ -58,8 +58,8 @@ impl<R> From<RecoveryError<R>> for ErrorCode {
     }
 }
 
-/// Those of `enrolments` whose operators aren't among `roll`, the enrolled ones, in their order. A ceiling
-/// above 1,000 is left out.
+/// Those of `enrolments`, in their order, whose operators aren't enrolled yet; `roll` lists the enrolled
+/// ones. An enrolment with a ceiling above 1,000 is left out.
 ///
 /// # Errors
 ///
@@ -82,7 +82,7 @@ pub fn missing_enrolments(
     Ok(missing)
 }
 
-// Whether the operator of `enrolment` isn't enrolled, and its ceiling is at most 1,000.
+// Whether the operator of `enrolment` isn't on the `roll` of enrolled ones, and its ceiling is at most 1,000.
 fn is_missing(roll: &[Enrolment], enrolment: &Enrolment) -> bool
     ensures missing { result ≡ spec.is_missing roll.now enrolment.now }
     ensures in_range { IsTrue result → enrolment.now.ceiling ≤ max_priority }
@@ -93,20 +93,21 @@ fn is_missing(roll: &[Enrolment], enrolment: &Enrolment) -> bool
     !is_enrolled(roll, &enrolment.operator)
 }
 
-// Whether `operator` is among `roll`.
+// Whether `operator` is on the `roll` of enrolled operators.
 fn is_enrolled(roll: &[Enrolment], operator: &Operator) -> bool
     ensures { result ≡ spec.is_on_roll roll.now operator.now }
 {
     roll.iter().any(|enrolment| enrolment.operator == *operator)
 }
 
-/// Sets the terms of the last journal at the desk, enrols the operators that are `missing`, and repeats the
-/// request `asked` that has no answer there, at its second. The request is written to the new `journal`
-/// before it is carried out, and its answer after that.
+/// Sets the `terms` of the last journal at the desk, enrols the operators that are `missing` there, and
+/// repeats the request `asked`, which has no answer in that journal, at its own second. The request is
+/// written to the new `journal` before it is carried out, and its answer after that.
 ///
 /// # Errors
 ///
-/// As `RecoveryError` says. A request that got no answer has changed nothing then.
+/// As `RecoveryError` says. Some of the operators may be enrolled then. If the desk failed at the request,
+/// the request has changed nothing; if only its answer can't be written, it is carried out.
 #[tactic(auto, using(crate::proofs::RecoveringLemmas::recovers, crate::proofs::RecoveringLemmas::unlisted))]
 pub fn recover<S: PlanStore, R: Record>(
     alloc: Global,
@@ -132,7 +133,8 @@ pub fn recover<S: PlanStore, R: Record>(
     redo_if_pending(alloc, desk, asked, journal)
 }
 
-// The error of a recovery at which an operator could not be enrolled.
+// The error of a recovery at which enrolling an operator failed with `fault`: memory ran out, or the store
+// failed.
 fn enrolment_error<R>(fault: DeskFault) -> RecoveryError<R>
     ensures failure { IsBreakdown fault → spec.failure_of result ≡ enrolment_failure fault }
     ensures cause { IsBreakdown fault → spec.failure_of result ≡ ErrorCode.Store → fault ≡ DeskFault.Store }
@@ -143,7 +145,7 @@ fn enrolment_error<R>(fault: DeskFault) -> RecoveryError<R>
     }
 }
 
-// Repeats the request `asked` that has no answer, if there is one.
+// Repeats the request `asked` that has no answer, if there is one, as `redo_request` does.
 fn redo_if_pending<S: PlanStore, R: Record>(
     alloc: Global,
     desk: &mut Desk<S>,
@@ -164,7 +166,9 @@ fn redo_if_pending<S: PlanStore, R: Record>(
     }
 }
 
-// Repeats a request at its second, and writes it and its answer to `journal`.
+// Repeats the request `asked` at its own second. It is written to `journal` before, and its answer after
+// that. If the desk fails, the journal notes that the answer is lost. If the second is out of range, nothing
+// is done.
 #[tactic(auto, using(crate::proofs::RecoveringLemmas::both_added))]
 fn redo_request<S: PlanStore, R: Record>(
     alloc: Global,
@@ -200,10 +204,12 @@ fn redo_request<S: PlanStore, R: Record>(
     }
 }
 
-// Writes the answer to the repeated request, which isn't sent to any client, to `journal`.
+// Writes the answer to the repeated request to `journal`; it isn't sent to any client. If that fails, the
+// journal notes that the answer is lost.
 fn record_redone_answer<R: Record>(journal: &mut R, answer: &[u8]) -> Result<(), RecoveryError<R>>
     ensures ok { OnOk result
-        (AddsStep (R.steps journal.old) (R.steps journal.new) (Answered (reported_again answer.now))) }
+        (AddsStep (R.steps journal.old) (R.steps journal.new)
+        (Answered (reported_again answer.now))) }
     ensures err { IfErr result (λ why. (spec.failure_of why ≡ ErrorCode.Broken)
         × AddsStep (R.steps journal.old) (R.steps journal.new) (Lost (reported_again answer.now))) }
 {
@@ -217,7 +223,7 @@ fn record_redone_answer<R: Record>(journal: &mut R, answer: &[u8]) -> Result<(),
     }
 }
 
-// The exchange of a repeated request: the whole request was answered, but there is no client.
+// The exchange of a repeated request, which has no client: the request was read whole and got this answer.
 fn exchange_without_client(answer: &[u8]) -> Exchange<'_>
     ensures { parting_of result ≡ spec.reported_again answer.now }
 {
@@ -231,7 +237,8 @@ fn exchange_without_client(answer: &[u8]) -> Exchange<'_>
     }
 }
 
-// The error of a recovery at which a request could not be repeated.
+// The error of a recovery at which repeating the request failed with `fault`: memory ran out, or the store
+// failed.
 fn replay_error<R>(fault: ReplayFault) -> RecoveryError<R>
     ensures memory_or_store { (spec.failure_of result ≡ ErrorCode.Memory)
         ⊎ (spec.failure_of result ≡ ErrorCode.Store) }

@@ -8,11 +8,11 @@ ghost use Rattle.std.specs.Io.KnownBytes.{ReadConsumes, WriteAppends};
 use crate::receiving::ReceiveError;
 use std::io::{self, Cursor, Read, Write};
 
-/// A buffered request, which is in the journal already and is to be read by the desk; and its client.
+/// A client and its request, which is in the journal already. The desk reads the request from this buffer.
 #[derive(Drop)]
 pub struct Given<I> {
     pub(crate) request: Cursor<Vec<u8>>,
-    // Why the client's bytes could not be read, if so: then the request is empty and not in the journal.
+    // Why the client's bytes could not be read, if so: then the request is empty, and not in the journal.
     pub(crate) unread: Option<ReceiveError<I>>,
     pub(crate) client: I,
 }
@@ -20,12 +20,14 @@ pub struct Given<I> {
 impl<I> Read for Given<I> {
     ghost remaining = { λ s. cursor_remaining (λ v. Some v.items) s.request };
 
+    // Reads from the buffered request.
     fn read(&mut self, room: &mut [u8]) -> io::Result<usize> {
         self.request.read(room)
     }
 }
 
-/// A buffered answer, which is to be appended to the journal before it is sent; and its client.
+/// A client (`to`) and its answer, which the desk writes into this buffer. The answer is appended to the
+/// journal before it is sent.
 #[derive(Drop)]
 pub struct Held<O> {
     pub(crate) answer: Vec<u8>,
@@ -35,10 +37,12 @@ pub struct Held<O> {
 impl<O> Write for Held<O> {
     ghost contents = { λ s. Some s.answer.items };
 
+    // Appends to the buffered answer.
     fn write(&mut self, bytes: &[u8]) -> io::Result<usize> {
         self.answer.write(bytes)
     }
 
+    // Does nothing: the answer is sent later.
     fn flush(&mut self) -> io::Result<()> {
         self.answer.flush()
     }

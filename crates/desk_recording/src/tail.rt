@@ -18,30 +18,31 @@ use std::alloc::{AllocError, Global};
 use std::io::Read;
 use volume4d::MAX_SECOND;
 
-/// The version of the format.
+/// The version of the journal format that is read.
 const VERSION: &[u8] = b"1";
 
-/// The length of an entry without its own bytes.
+/// The length of an entry without its own bytes: a line of 86 bytes, and a line feed.
 const OVERHEAD: u64 = 87;
 
 /// A recorded request without an answer, or whose answer is a 500.
 #[derive(Debug, Drop)]
 pub struct PendingRequest {
-    /// Its Unix second, at most 253,370,764,800.
+    /// The Unix second at which it was decided, at most 253,370,764,800.
     pub second: u64,
+    /// The bytes of the request.
     pub request: Vec<u8>,
 }
 
-/// What the entries of a journal file say up to its end.
+/// What the whole entries of a journal file say.
 #[derive(Debug, Drop)]
 pub struct Tail {
     /// The number of the file in its folder, if it has a first entry.
     pub record: Option<u64>,
-    /// The permitted priorities.
+    /// The permitted priorities, in the order of their entries.
     pub permitted: Vec<u32>,
-    /// The settings of the desk that wrote it.
+    /// The settings of the desk that wrote the file; `permitted` is a part of them.
     pub terms: Terms,
-    /// The operators that were enrolled after the last request.
+    /// The operators that were enrolled after the last request, or all if there is none.
     pub operators: Vec<Enrolment>,
     /// The last request, if it has no answer or a 500.
     pub asked: Option<PendingRequest>,
@@ -67,7 +68,7 @@ pub enum TailFault {
     Read,
     /// Memory ran out.
     OutOfMemory,
-    /// An entry that no desk writes at its place.
+    /// An entry is one that no desk writes at its place.
     NoRecord,
 }
 
@@ -83,7 +84,7 @@ impl From<AllocError> for TailFault {
 }
 
 impl Tail {
-    // The state before the first entry.
+    // What no entries say: the state before the first entry.
     fn empty(alloc: Global) -> Tail
         ensures { tail_shown result ≡ nothing_said }
     {
@@ -98,8 +99,8 @@ impl Tail {
     }
 }
 
-/// Reads a journal file up to its end or to the first bytes that are no whole entry, and returns what the
-/// entries say and what follows them.
+/// Reads a journal file up to its end or to the first bytes that are no whole entry. Returns what the entries
+/// say, and what follows them.
 ///
 /// # Errors
 ///
@@ -119,7 +120,8 @@ pub fn read_tail<R: Read>(alloc: Global, input: &mut R) -> Result<(Tail, TailEnd
     Err(TailFault::Read)
 }
 
-// Reads the next entry and applies it to `tail`. If there is none, returns what follows instead.
+// Reads the next entry and applies it to `tail`. Returns `None` then. If there is no whole entry, returns
+// what follows instead, and `tail` is unchanged.
 fn read_next_entry<R: Read>(
     alloc: Global,
     input: &mut R,
@@ -141,7 +143,8 @@ fn read_next_entry<R: Read>(
     }
 }
 
-// Applies an entry to `tail` and counts its bytes. The first entry has to be the header.
+// Applies an entry to `tail` and adds its length to `tail.size`. The first entry has to be the header, of the
+// kind `Record`; else the error is `NoRecord`.
 #[tactic(auto, unfolding(crate::specs::Tail::said))]
 fn apply_entry(tail: &mut Tail, entry: Entry) -> Result<(), TailFault>
     ensures { Notes result (said (tail_shown tail.old) (entry_shown entry)) (tail_shown tail.new) }
@@ -159,7 +162,8 @@ fn apply_entry(tail: &mut Tail, entry: Entry) -> Result<(), TailFault>
     apply_by_kind(tail, kind, number, bytes)
 }
 
-// Applies an entry to `tail`, by its kind.
+// Applies an entry to `tail`, by its kind. `NoRecord` if no desk writes such an entry here; for example,
+// entries of the kinds `Permitted`, `Spans` and `Cells` have no bytes of their own.
 fn apply_by_kind(tail: &mut Tail, kind: Kind, number: u64, bytes: Vec<u8>) -> Result<(), TailFault>
     ensures { Notes result (spec.said_within kind (tail_shown tail.old) number bytes.items)
         (tail_shown tail.new) }
@@ -178,10 +182,12 @@ fn apply_by_kind(tail: &mut Tail, kind: Kind, number: u64, bytes: Vec<u8>) -> Re
     }
 }
 
-// Applies the first entry: the file's number and the version of the format.
+// Applies the header to `tail`: the file's number and the version of the format. `NoRecord` if it isn't the
+// first entry or the version is another.
 #[tactic(auto, unfolding(crate::specs::Tail::said_record))]
 fn apply_header(tail: &mut Tail, number: u64, version: &[u8]) -> Result<(), TailFault>
-    ensures { Notes result (spec.said_record (tail_shown tail.old) number version.now) (tail_shown tail.new) }
+    ensures { Notes result (spec.said_record (tail_shown tail.old) number version.now)
+        (tail_shown tail.new) }
 {
     if tail.record.is_some() {
         return Err(TailFault::NoRecord);
@@ -193,7 +199,7 @@ fn apply_header(tail: &mut Tail, number: u64, version: &[u8]) -> Result<(), Tail
     Ok(())
 }
 
-// Adds a permitted priority.
+// Adds a permitted priority to `tail`. `NoRecord` if it is above 1,000, or invalid beside those before it.
 #[tactic(auto, unfolding(crate::specs::Tail::said_permitted))]
 fn apply_permitted(tail: &mut Tail, priority: u64) -> Result<(), TailFault>
     ensures { Notes result (spec.said_permitted (tail_shown tail.old) priority) (tail_shown tail.new) }
@@ -211,7 +217,7 @@ fn apply_permitted(tail: &mut Tail, priority: u64) -> Result<(), TailFault>
     Ok(())
 }
 
-// Sets the limit on the spans of an operator's live plans.
+// Sets the limit on the spans of an operator's live plans. `NoRecord` if it is 0 or above `MAX_SPANS`.
 #[tactic(auto, unfolding(crate::specs::Tail::said_spans))]
 fn apply_spans_limit(tail: &mut Tail, spans: u64) -> Result<(), TailFault>
     ensures { Notes result (spec.said_spans (tail_shown tail.old) spans) (tail_shown tail.new) }
@@ -223,7 +229,7 @@ fn apply_spans_limit(tail: &mut Tail, spans: u64) -> Result<(), TailFault>
     Ok(())
 }
 
-// Sets the limit on the cells of all plans of an operator.
+// Sets the limit on the cells of all plans of an operator. `NoRecord` if it is 0 or above `MAX_TOTAL_CELLS`.
 #[tactic(auto, unfolding(crate::specs::Tail::said_cells))]
 fn apply_cells_limit(tail: &mut Tail, cells: u64) -> Result<(), TailFault>
     ensures { Notes result (spec.said_cells (tail_shown tail.old) cells) (tail_shown tail.new) }
@@ -235,10 +241,11 @@ fn apply_cells_limit(tail: &mut Tail, cells: u64) -> Result<(), TailFault>
     Ok(())
 }
 
-// Adds an enrolled operator.
+// Adds an operator with this name and ceiling to `tail`. `NoRecord` if its name or its ceiling is invalid.
 #[tactic(auto, unfolding(crate::specs::Tail::said_operator))]
 fn apply_operator(tail: &mut Tail, ceiling: u64, name: &[u8]) -> Result<(), TailFault>
-    ensures { Notes result (spec.said_operator (tail_shown tail.old) ceiling name.now) (tail_shown tail.new) }
+    ensures { Notes result (spec.said_operator (tail_shown tail.old) ceiling name.now)
+        (tail_shown tail.new) }
 {
     let Some(operator) = Operator::try_new(name) else {
         return Err(TailFault::NoRecord);
@@ -258,6 +265,7 @@ fn apply_operator(tail: &mut Tail, ceiling: u64, name: &[u8]) -> Result<(), Tail
 }
 
 // Notes a request, which has no answer yet, and drops the operators before it: the desk has enrolled these.
+// `NoRecord` if the request before has no answer, or the second is out of range.
 #[tactic(auto, unfolding(crate::specs::Tail::said_request))]
 fn apply_request(tail: &mut Tail, second: u64, request: Vec<u8>) -> Result<(), TailFault>
     ensures { Notes result (spec.said_request (tail_shown tail.old) second request.items)
@@ -274,10 +282,12 @@ fn apply_request(tail: &mut Tail, second: u64, request: Vec<u8>) -> Result<(), T
     Ok(())
 }
 
-// Notes the answer to the last request. After a 500 the request still counts as unanswered.
+// Notes the answer to the last request. After a 500 the request still counts as unanswered. `NoRecord` if no
+// request waits for an answer, or `second` isn't that of the request.
 #[tactic(auto, unfolding(crate::specs::Tail::said_answer))]
 fn apply_answer(tail: &mut Tail, second: u64, answer: &[u8]) -> Result<(), TailFault>
-    ensures { Notes result (spec.said_answer (tail_shown tail.old) second answer.now) (tail_shown tail.new) }
+    ensures { Notes result (spec.said_answer (tail_shown tail.old) second answer.now)
+        (tail_shown tail.new) }
 {
     let Some(asked) = &tail.asked else {
         return Err(TailFault::NoRecord);

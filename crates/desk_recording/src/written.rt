@@ -23,12 +23,12 @@ use std::alloc::{AllocError, Global};
 pub struct WrittenRecord<J: Drop> {
     alloc: Global,
     journal: J,
-    // The second of the last request.
+    // The Unix second of the last request; 0 before the first one.
     second: u64,
 }
 
 impl<J: Journal + Drop> WrittenRecord<J> {
-    /// A request journal that goes on at the end of this file.
+    /// A request journal whose entries are appended to the file `journal`.
     pub fn new(alloc: Global, journal: J) -> WrittenRecord<J>
         ensures { result.journal ≡ journal }
     {
@@ -50,7 +50,7 @@ impl<J: Journal + Drop> WrittenRecord<J> {
         self.journal.sync()
     }
 
-    // Appends an entry.
+    // Appends an entry with this kind, number and bytes, without flushing it.
     #[tactic(auto, using(crate::proofs::WritingLemmas::extends_none))]
     fn append(&mut self, kind: Kind, number: u64, bytes: &[u8]) -> Result<(), AppendError<J::Fault>>
         ensures done { OnOk result (FollowsWrites (J.writes self.old.journal) (J.writes self.new.journal)
@@ -65,7 +65,7 @@ impl<J: Journal + Drop> WrittenRecord<J> {
         append_text(&mut self.journal, &text)
     }
 
-    // Appends an entry for each new enrolment.
+    // Appends an entry for each new enrolment, without flushing them.
     #[tactic(auto, using(crate::proofs::WritingLemmas::extends_none))]
     fn append_enrolments(
         &mut self,
@@ -84,7 +84,8 @@ impl<J: Journal + Drop> WrittenRecord<J> {
     }
 }
 
-// Appends `text` to the file.
+// Appends `text` to the file, without flushing it. If that fails, it counts as not appended: a truncated
+// entry isn't read back.
 #[tactic(auto, using(crate::proofs::WritingLemmas::extends_by))]
 fn append_text<J: Journal>(journal: &mut J, text: &[u8]) -> Result<(), AppendError<J::Fault>>
     ensures done { OnOk result
@@ -95,7 +96,7 @@ fn append_text<J: Journal>(journal: &mut J, text: &[u8]) -> Result<(), AppendErr
     append_to(journal, text)
 }
 
-// The entries for new enrolments, in their order.
+// The text of an entry for each new enrolment, in their order. Fails if memory runs out.
 fn enrolment_entries(alloc: Global, newly_enrolled: &[Enrolment]) -> Result<Vec<u8>, AllocError>
     ensures text { IfOk result (λ text. text.items ≡ entries (map operator_entry newly_enrolled.now)) }
     ensures named { IfOk result (λ _. AreNamed newly_enrolled.now) }
@@ -117,7 +118,7 @@ impl<J: Journal + Drop> Record for WrittenRecord<J> {
 
     ghost noted = { λ s. noted_in s.second (J.writes s.journal) };
 
-    // Appends an entry for each new enrolment, and flushes them.
+    // Appends an entry for each new enrolment, and flushes them. If there are none, nothing is flushed.
     fn append_new_enrolments(
         &mut self,
         newly_enrolled: &[Enrolment],
@@ -140,7 +141,7 @@ impl<J: Journal + Drop> Record for WrittenRecord<J> {
         sync_to(&mut self.journal)
     }
 
-    // Appends the entry of a request, unless it is empty, and flushes it.
+    // Appends the entry of a request and flushes it. Does nothing if the request is empty (none came whole).
     fn append_request(&mut self, moment: Moment, bytes: &[u8]) -> Result<(), AppendError<J::Fault>>
         ensures steps { AddsIf None None (is_ok result) (Asked moment.second bytes.now) }
         ensures noted { NotesOnDisk (noted_in self.old.second (J.writes self.old.journal))
@@ -159,7 +160,8 @@ impl<J: Journal + Drop> Record for WrittenRecord<J> {
         sync_to(&mut self.journal)
     }
 
-    // Appends the entry of the answer to the last request, unless it is empty, without flushing it.
+    // Appends the entry of the answer to the last request, without flushing it. Does nothing if the answer is
+    // empty (none was made).
     fn append_answer(&mut self, connection: Exchange<'_>) -> Result<(), AppendError<J::Fault>>
         ensures steps { AddsIf None None (is_ok result) (Answered (parting_of connection.entry)) }
         ensures noted { Notes (noted_in self.old.second (J.writes self.old.journal))

@@ -21,46 +21,49 @@ use Rattle.uss_desk.specs.Refused.{IsUnfound}
 use Rattle.uss_desk.specs.declared.recording.PendingRecovery.{PendingRecovery}
 use Rattle.uss_desk.specs.declared.rolls.NotedOperators.{NotedOperators}
 
--- the operators of a roll: none, if they are not noted
+-- the operators that were noted; the empty list if none were
 abbrev pub operators_in : Option (Vec Enrolment) → List Enrolment
 operators_in None = []
 operators_in (Some all) = all.items
 
--- what a journal leaves pending at a desk that has the operators of the roll
+-- what a journal leaves pending at a desk that has the operators noted in the roll
 abbrev pub left_undone : PendingRecovery → NotedOperators → Undone
 left_undone left roll =
     undone left.tail.terms (missing_enrolments (operators_in roll.operators) left.tail.operators.items)
     (unanswered_in left.tail.asked)
 
--- why it is not done: a file, the desk's store or memory fails; and a request that is to be asked again can't
--- be kept, or its second is no moment
+-- why a recovery fails: a file, the desk's store or memory fails; or, if a request is to be repeated, it or
+-- its answer can't be recorded, or its second is out of range
 abbrev pub IsUnfinished : {A : Type 0} → Option A → ErrorCode → Type 0
-IsUnfinished asked f = IsUnfound f ⊎ (IsSome asked × ((f ≡ failure.Broken) ⊎ (f ≡ failure.Clock)))
+IsUnfinished asked f =
+    IsUnfound f ⊎ (IsSome asked × ((f ≡ failure.Broken) ⊎ (f ≡ failure.Clock)))
 
--- the number of the folder's last journal: one more, if a request is asked again
+-- the number of the folder's last journal: one more if a request is repeated, else the same
 abbrev pub IsNumbered : {A : Type 0} → Option A → ℕ → ℕ → Type 0
 IsNumbered None old new = new ≡ old
 IsNumbered (Some asked) old new = next_number old ≡ Ok new
 
--- a start finds the desk's content alone, if it found alone what the desk had
+-- after a crash the next start finds only the desk's content (new), if that was so before (old) and the disk
+-- has returned what was written
 abbrev pub KeepsAlone : {S : Type 0} → Ghosts S → Parts (Shown S) → Parts (Shown S) → Type 0
 KeepsAlone g old new =
     IsSound g new → LeavesOnly old.store.world (MayLeave g old.store.held)
     → LeavesOnly new.store.world (MayLeave g new.store.held)
 
--- what is undone is done at a desk; of the steps of its journal nothing is known
+-- what is pending is recovered at a desk, from old to new; nothing is said of the steps of its journal
 abbrev pub IsDone : {S : Type 0} → Ghosts S → Undone → Parts (Shown S) → Parts (Shown S) → Type 0
 IsDone g u old new =
     Recovers (IsSound g new) u (course (load_world old) (load_world new)) (course None None) (Ok (tt {0}))
 
--- so it is at a desk that is then as one that was just opened: the terms on which it planned are dropped
+-- the same, and the desk is then as if it was just opened: it has no terms
 pub record IsFinished {S : Type 0} (g : Ghosts S) (u : Undone) (opened after : Parts (Shown S)) : Type 0 where
   pub terms : Terms
   pub done : IsDone g u opened (record { store = after.store; terms = terms })
   pub anew : after.terms ≡ no_terms
   pub kept : KeepsAlone g opened after
 
--- nothing was undone, and the desk is what was opened; or it is finished; or why it is not
+-- the result of `finish`: nothing was pending, and the desk is the opened one; or the recovery succeeded; or
+-- why it failed
 abbrev pub Finishes :
     {S : Type 0} → Ghosts S → Option PendingRecovery → NotedOperators → Parts (Shown S)
     → Result (Parts (Shown S)) ErrorCode → Type 0

@@ -21,20 +21,20 @@ pub record Past (D : Type 0) : Type 0 where
   pub start : D → List ℕ
   pub calls : D → List Event
 
--- a disk's files have this past: by it each says whether it tests what it reads, and whether it has returned
--- what was written
+-- the files of a disk have this past: it determines whether a file tests its reads (fair), and whether it has
+-- returned what was written (clean)
 pub record IsPastOf {D : Type 0} (g : disk.Ghosts D) (past : Past D) : Type 0 where
   pub fair : (d : D) → g.is_fair d ≡ (replay (past.start d) (past.calls d)).is_fair
   pub clean : (d : D) → g.is_clean d ≡ (replay (past.start d) (past.calls d)).is_honest
 
--- that of a file of the operating system that held what `start` stands for
+-- the past of a file of the operating system that held what `start` stands for
 abbrev pub past_of :
     {S : Type 0} {g : calls.Ghosts Host} (start : Ghosts S) → Past (Modelled Host S g start)
 past_of start = record { start = start_of start; calls = λ f. f.calls.log.events }
 
 module _ {D : Type 0} {g : disk.Ghosts D} where
-  -- a read of the WAL or of the database file returned other bytes than those that had been written there, of
-  -- the same digest of 64 bits under the key that came with the files
+  -- a read of the WAL or of the database file returned other bytes than those written there, but with the
+  -- same digest of 64 bits (under the key of the files)
   abbrev pub HasCollided : Past D → Parts (Shown (FileStore D g)) → Type 0
   HasCollided past desk =
       let log = (files desk.store.held.store).0 in
@@ -42,7 +42,7 @@ module _ {D : Type 0} {g : disk.Ghosts D} where
       HasCollision (g.key_of log) (past.start log) (past.calls log)
       ⊎ HasCollision (g.key_of log) (past.start db) (past.calls db)
 
-  -- the disk has returned what was written, to the end; or a digest has collided
+  -- the disk has returned what was written so far; or a digest has collided
   abbrev pub IsTrueOrCollided : Past D → Parts (Shown (FileStore D g)) → Type 0
   IsTrueOrCollided past desk =
       IsHonest (doubt (file_state desk.store.held).is_clean) ⊎ HasCollided past desk

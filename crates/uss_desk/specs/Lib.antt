@@ -1,4 +1,4 @@
--- Read first: Running, Opening, Guarding, Closing, Keeping; DamageReported stands alone.
+-- Read first: OpenedFor, OpenedLines, Guarding, FilesLeft, Finishing.
 pub mod OpenedFor
 pub mod Rolls
 pub mod LineRecord

@@ -1,4 +1,4 @@
--- OpenedFor: what a command is run at, and what a database that can't be opened means.
+-- OpenedFor: the desk that is opened for a command, and why none is.
 use Rattle.std.specs.Prelude.{◌≡◌, ℕ, [], Result, Ok, Err, IfErr, IfOk, MatchResult}
 use Rattle.sqlite_disk.specs.declared.Disk as disk
 use Rattle.sqlite_wal.specs.Recovery.{Image}
@@ -23,22 +23,22 @@ use Rattle.desk_admin.specs.declared.unopened.OpenError.{OpenError}
 use Rattle.uss_desk.specs.declared.opening.Opened.{Opened}
 use Rattle.uss_desk.specs.declared.opening.Opened.TheVariants as opened
 
--- memory ran out: nothing else keeps a desk in memory from being opened
+-- the error code is `Memory`, the only one of opening a desk in memory
 abbrev pub IsMemory : ErrorCode → Type 0
 IsMemory f = f ≡ failure.Memory
 
--- the world of a desk over tables
+-- the world of a desk over tables: its content and its terms
 abbrev pub load_world : {S : Type 0} → Parts (Shown S) → DeskWorld
 load_world desk = world_of (λ s. s.world) desk
 
--- no operators, no plans, no terms
+-- the desk is blank: it has no operators, no plans and no terms
 abbrev pub IsBlank : {S : Type 0} → Parts (Shown S) → Type 0
 IsBlank desk = load_world desk ≡ with_content no_terms (record { operators = []; plans = [] })
 
 module _ {D : Type 0} (g : disk.Ghosts D) (image : Image) where
-  -- the store of a desk over files that held this begins with the world that is found in them, which a crash
-  -- leaves there; it has no terms; and if the disk returned what was written so far, each later read
-  -- is tested
+  -- a desk over files that held the image: its store has the content found in them, and a crash would leave
+  -- just that, if the disk returned what was written; each later read is tested then; and the desk has no
+  -- terms
   pub record BeginsIn (desk : Parts (Shown (FileStore D g))) : Type 0 where
     pub opens : OpensIn image desk.store.held desk.store.world
     pub left : HasCleanDisk (file_state desk.store.held)
@@ -46,8 +46,8 @@ module _ {D : Type 0} (g : disk.Ghosts D) (image : Image) where
     pub guarded : IsGuarded desk.store.held
     pub none : desk.terms ≡ no_terms
 
-  -- the failure is that of files that the connection refused: their database is invalid, has rows of schema
-  -- 1, or can't be read; or of files that were not opened
+  -- the error is that of refused files, which held the image: their database is invalid, has rows of schema
+  -- 1, or can't be read; or they were not opened
   abbrev pub FailsAt : OpenError D g → Type 0
   FailsAt = FailsOver (λ files. AreRefused image files.fault files.connection)
 
@@ -64,22 +64,23 @@ abbrev pub MovedDesk : {D : Type 0} → disk.Ghosts D → Type 0
 MovedDesk {D} g = Result (Parts (Shown (FileStore D g)) × ℕ) (OpenError D g)
 
 module _ {D : Type 0} {g : disk.Ghosts D} (image : Image) where
-  -- a desk over files that held this, or why there is none
+  -- the result of opening files that held the image: a desk, or why there is none
   abbrev pub IsOpenedIn : FileDesk g → Type 0
   IsOpenedIn (Ok desk) = BeginsIn g image desk
   IsOpenedIn (Err it) = FailsAt g image it
 
-  -- a desk over files that held this, to which so many plans were migrated, or why there is none
+  -- the result of opening files that held the image and migrating their plans of schema 1: a desk and how
+  -- many plans were migrated, or why there is none
   abbrev pub IsMovedIn : MovedDesk g → Type 0
   IsMovedIn (Ok moved) = OpensMoved image moved.0.store.held moved.0.store.world moved.1
   IsMovedIn (Err it) = FailsMovingAt g image it
 
-  -- by where the database is: nothing is read of one in memory, which fails as the store does
+  -- the same, by where the database is: for one in memory the error is `Store`, and nothing is read
   abbrev pub IsMovedAt : Database → MovedDesk g → Type 0
   IsMovedAt InMemory moved = MatchResult moved (λ _. ⊥) (λ it. IsUnreadFor it opening.Store)
   IsMovedAt (File path) moved = IsMovedIn moved
 
--- what is opened for a line: a desk in memory or one over files
+-- what is opened for a command: a desk in memory or one over files, or why there is none
 abbrev pub OpenedDesk : {M : Type 0} → disk.Ghosts M → {D : Type 0} → disk.Ghosts D → Type 0
 OpenedDesk {M} m {D} g = Opened (Result (Parts (Shown (FileStore M m))) ErrorCode) (FileDesk g)
 

@@ -1,4 +1,4 @@
--- OpenedLines: what comes of a line at what was opened for it, to the exit status.
+-- OpenedLines: what a command does at the desk that was opened for it, up to the exit status.
 use Rattle.std.specs.Prelude.{◌≡◌, ◌≤◌, ℕ, List, Option, None, Some, Result, Ok, Err, IfErr, IfOk}
 use Rattle.std.specs.Option.{IsSomeAnd}
 use Rattle.sqlite_trees.specs.declared.store.Store.{Ghosts}
@@ -31,7 +31,8 @@ use Rattle.uss_desk.specs.OpenedFor.{load_world}
 abbrev pub IsSound : {S : Type 0} → Ghosts S → Parts (Shown S) → Type 0
 IsSound g desk = IsHonest (doubt (state g desk.store.held).is_clean)
 
--- what may be found once the line ended, if what the desk began with was all that could be found then
+-- each content that the next start may find after the command (found) is as `IsLineKept` says, if the disk
+-- has returned what was written, and before the command the next start could find only the desk's content
 abbrev pub IsKeptSince :
     {S : Type 0} → Ghosts S → Line → Outside → Parts (Shown S) → Parts (Shown S) → Type 0
 IsKeptSince g line o begun desk =
@@ -39,8 +40,8 @@ IsKeptSince g line o begun desk =
     → (found : Option World) → MayLeave g desk.store.held found
     → IsLineKept (IsSound g desk) line o (load_world begun) (load_world desk) found
 
--- a command is run at the desk that was opened: its disk was then in no more doubt than it is now, and if
--- each later read was tested then, each is
+-- a command is run at the desk that was opened (desk), which becomes `left`. If the disk has returned what
+-- was written until now, it had before; and if each later read was tested before, it still is
 abbrev pub IsDoneAt :
     {S : Type 0} → Ghosts S → Line → Outside → Option (Parts (Shown S)) → Parts (Shown S) → Type 0
 IsDoneAt g line o left desk = IsSomeAnd left (λ left.
@@ -48,24 +49,25 @@ IsDoneAt g line o left desk = IsSomeAnd left (λ left.
     × (doubt (state g desk.store.held).is_clean ≤ doubt (state g left.store.held).is_clean)
     × ((state g desk.store.held).IsShielded → (state g left.store.held).IsShielded))
 
--- and what may be found once it ended
+-- and what the next start may find afterwards
 abbrev pub IsKeptAt :
     {S : Type 0} → Ghosts S → Line → Outside → Option (Parts (Shown S)) → Parts (Shown S) → Type 0
 IsKeptAt g line o left desk = IsSomeAnd left (IsKeptSince g line o desk)
 
--- a line at the desk that was opened for it, or at none
+-- the result of a command: it is run at the desk that was opened for it; or none was opened, and only that
+-- error is reported
 pub record IsLineRun {S : Type 0} (g : Ghosts S) (opened : Result (Parts (Shown S)) ErrorCode) (line : Line)
     (o : Outside) (left : Option (Parts (Shown S))) : Type 0 where
   pub done : IfOk opened (IsDoneAt g line o left)
   pub kept : IfOk opened (IsKeptAt g line o left)
   pub undone : IfErr opened (IsUnopened o left)
 
--- what is known of a desk's disk and of its faults is not lost
+-- what is known of a desk's disk and its count of faults is not lost from old to new
 abbrev pub RemembersDesk : {S : Type 0} → Ghosts S → Parts (Shown S) → Parts (Shown S) → Type 0
 RemembersDesk g old new = Remembers (λ s. doubt (state g s.held).is_clean) (λ s. s.faults)
     (λ s. (state g s.held).IsShielded) old.store new.store
 
--- each later read of the desk that was opened is tested, if its disk has returned what was written so far
+-- if a desk was opened: each later read is tested, if the disk has returned what was written so far
 abbrev pub AreReadsTested :
     {D : Type 0} {g : disk.Ghosts D} → Result (Parts (Shown (FileStore D g))) ErrorCode → Type 0
 AreReadsTested opened = IfOk opened (λ desk. IsGuarded desk.store.held)
@@ -78,8 +80,8 @@ abbrev pub StaysGuarded :
 StaysGuarded past opened left = IfOk opened (λ desk. IsSomeAnd left (λ left.
     HasCleanDisk (file_state desk.store.held) → IsTrueOrCollided past left))
 
--- the line that reports how many plans were migrated is printed, or cut off, and the plans are migrated all
--- the same; or the move failed, and nothing is printed
+-- the plans are migrated, and their count is printed, or that line is cut off; or the migration failed: the
+-- error code is reported, and nothing is printed
 abbrev pub IsMoveReported :
     {S : Type 0} → Result (Parts (Shown S) × ℕ) ErrorCode → Ending → Option (Parts (Shown S))
     → Course (Option (List ℕ)) → Type 0

@@ -1,4 +1,4 @@
--- RecordsPlayed: what comes of a journal that is played at what was opened for it, to the exit status.
+-- RecordsPlayed: what the command `replay` does at the desk that was opened for it, up to the exit status.
 use Rattle.std.specs.Prelude.{◌≡◌, ◌≤◌, ℕ, Option, Result, IfErr, IfOk}
 use Rattle.std.specs.Option.{IsSomeAnd}
 use Rattle.sqlite_trees.specs.declared.store.Store.{Ghosts}
@@ -14,8 +14,8 @@ use Rattle.desk_replay.specs.ReplayReported.{IsReplayed, IsUnplayed}
 use Rattle.uss_desk.specs.OpenedFor.{load_world}
 use Rattle.uss_desk.specs.OpenedLines.{IsSound}
 
--- a journal is played at the desk that was opened: its disk was then in no more doubt than it is now, and if
--- each later read was tested then, each is
+-- a journal is replayed at the desk that was opened (desk), which becomes `left`. If the disk has returned
+-- what was written until now, it had before; and if each later read was tested before, it still is
 abbrev pub IsReplayedAt :
     {S : Type 0} → Ghosts S → Option ℕ → Passage → Ending → Option (Parts (Shown S)) → Parts (Shown S)
     → Type 0
@@ -24,7 +24,8 @@ IsReplayedAt g until p end left desk = IsSomeAnd left (λ left.
     × (doubt (state g desk.store.held).is_clean ≤ doubt (state g left.store.held).is_clean)
     × ((state g desk.store.held).IsShielded → (state g left.store.held).IsShielded))
 
--- a journal at the desk that was opened for it, or at none
+-- the result of `replay`: the journal is replayed at the desk that was opened for it; or none was opened, and
+-- only that error is reported
 pub record IsReplayRun {S : Type 0} (g : Ghosts S) (opened : Result (Parts (Shown S)) ErrorCode)
     (until : Option ℕ) (p : Passage) (end : Ending) (left : Option (Parts (Shown S))) : Type 0 where
   pub done : IfOk opened (IsReplayedAt g until p end left)

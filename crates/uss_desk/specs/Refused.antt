@@ -1,4 +1,4 @@
--- Refused: why nothing goes on from a folder of journals, and why a file is refused for its WAL.
+-- Refused: why a journal folder can't be used, and why a database file is refused for its WAL.
 use Rattle.std.specs.Prelude.{◌≡◌, ◌⊎◌, ⊤, ℕ, Bool, true, false, List, Option, None, Some, Result, Ok, Err}
 use Rattle.std.specs.declared.io.Error.{Error}
 use Rattle.desk_cli.specs.declared.failure.ErrorCode.{ErrorCode}
@@ -13,42 +13,44 @@ use Rattle.uss_desk.specs.declared.recording.FileError.{FileError}
 use Rattle.uss_desk.specs.declared.recording.LocalJournal.{LocalJournal}
 use Rattle.uss_desk.specs.declared.recording.PendingRecovery.{PendingRecovery}
 
--- the folder can't be read or written, or nothing goes on from what it has; or memory ran out
+-- the error code of a journal folder that can't be read, written or continued (`Write`), or `Memory`
 abbrev pub IsKeptOut : ErrorCode → Type 0
 IsKeptOut f = (f ≡ failure.Write) ⊎ (f ≡ failure.Memory)
 
--- so, or the clock gives no second: no journal is begun
+-- the error code of a journal that can't be begun: one of these, or `Clock`
 abbrev pub IsUnbegun : ErrorCode → Type 0
 IsUnbegun f = (f ≡ failure.Clock) ⊎ IsKeptOut f
 
--- so, or a database's file is not there: no folder is found
+-- the error code of a journal folder that can't be recovered from: `Store` for the database, or one of those
+-- of the folder
 abbrev pub IsUnfound : ErrorCode → Type 0
 IsUnfound f = (f ≡ failure.Store) ⊎ IsKeptOut f
 
--- the end of a journal is gone on from, if there is no cause against it
+-- the result is what was read of a journal, if there is no cause against continuing it; else that cause
 abbrev pub GoesOnUnless : Option (List ℕ) → Tail × TailEnd → Result (Tail × TailEnd) JournalError → Type 0
 GoesOnUnless None read result = result ≡ Ok read
 GoesOnUnless (Some cause) read (Ok other) = ⊥
 GoesOnUnless (Some cause) read (Err why) = unkept_text why ≡ Some cause
 
--- nothing speaks against going on from a journal, by the number in its name
+-- there is no cause against continuing the journal with this number in its name
 abbrev pub MayGoOn : ℕ → Tail → TailEnd → Type 0
 MayGoOn number tail ended = cause_of_tail number tail.record ended ≡ None
 
--- what is undone at a file is what this journal left, and it may be gone on from
+-- the recovery is for the database file, it is the one that this last journal asks for, and the journal can
+-- be continued
 pub record IsUndoneAt (file : List ℕ) (last : JournalFile) (left : PendingRecovery) : Type 0 where
   pub at : left.file.now ≡ file
   pub of : left.record ≡ last
   pub may : MayGoOn last.number left.tail left.ended
 
--- a write or a sync of a journal is handed on; that it failed is reported, once
+-- the result of a write or a sync of a journal is returned; an error is noted as reported
 abbrev pub HandsOn : Result ⊤ Error → LocalJournal → LocalJournal → Result ⊤ FileError → Type 0
 HandsOn (Ok done) old new result = (result ≡ Ok (tt {0})) × (new ≡ old)
 HandsOn (Err e) old new result =
     (result ≡ Err (record { error = e })) × (new ≡ record old { is_reported = true })
 
--- a file is refused for its WAL: that is damaged, and the file is not copied; or the WAL can't be read, or is
--- there without its file; or memory ran out
+-- the error code of a file that is refused for its WAL: `DamagedLog`, but not for a command that copies the
+-- file; `Memory`; or `Store`, if the WAL can't be read or exists without its file
 abbrev pub IsLogRefused : Bool → ErrorCode → Type 0
 IsLogRefused copied f =
     ((copied ≡ false) × (f ≡ failure.DamagedLog)) ⊎ ((f ≡ failure.Memory) ⊎ (f ≡ failure.Store))

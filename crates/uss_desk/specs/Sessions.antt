@@ -1,5 +1,5 @@
--- Sessions: what a command has before its desk is opened, and of which desk it is reported that it has no
--- operator.
+-- Sessions: what a command has before its desk is opened, and when it is reported that no operator is
+-- enrolled.
 use Rattle.std.specs.Prelude.{◌≡◌, true, List, [], Option, None, Some, option_map}
 use Rattle.std.specs.Prelude.{string_bytes, unwrap_or}
 use Rattle.std.specs.Option.{IsSomeAnd}
@@ -12,8 +12,8 @@ use Rattle.uss_desk.specs.declared.recording.PendingRecovery.{PendingRecovery}
 use Rattle.uss_desk.specs.declared.recording.JournalFolder.{JournalFolder}
 use Rattle.uss_desk.specs.declared.session.Session.{Session}
 
--- a session has these words and these enrolments, the file of enrolments that the words name, and no operator
--- is noted yet; the paths are those of its database, and hold no file
+-- a session has these arguments and these enrolments, and the file of enrolments that the arguments name; no
+-- operator is noted yet; and the paths are those of the database, and lead to no open file yet
 pub record IsPrepared (words : DeskArgs) (enrolments : List Enrolment) (session : Session)
     (paths : LocalOpenPaths) : Type 0
   where
@@ -29,7 +29,7 @@ abbrev pub undone_of : Option JournalFolder → Option PendingRecovery
 undone_of None = None
 undone_of (Some folder) = folder.undone
 
--- it is known that the desk has no operator, and the command names none
+-- it is known that the desk has no operator, and the command enrols none, neither itself nor by a file
 pub record IsUnenrolled (session : Session) : Type 0 where
   pub empty : session.roll.is_empty ≡ true
   pub alone : session.enrolments.now ≡ []

@@ -1,4 +1,5 @@
-//! Closes a desk over files after its command: the database file alone has the state then.
+//! Closes a desk over files after its command. Its WAL is checkpointed: the database file alone has the state
+//! then.
 
 ghost use Rattle.std.specs.Prelude.{◌≡◌};
 ghost use Rattle.desk_cli.specs.Exits.{ending};
@@ -11,10 +12,11 @@ use host_files::paths::OpenPaths;
 use sqlite_disk::Disk;
 use std::io::Write;
 
-/// Closes a desk over files after a command that ended with `status`: its WAL is checkpointed into the
-/// database file. Returns the exit report and the closed files. If the desk can't be closed, or its files
-/// were no longer at their paths, a command that had succeeded fails with `Store`, which goes to `errors`.
-/// `None` stands for a desk in memory or none, and there is nothing to close.
+/// Closes a desk over files after a command that ended with the exit status `status`: its WAL is checkpointed
+/// into the database file. Returns the exit report and the result of closing. If the desk can't be closed, or
+/// its files were no longer at their paths, a command that had succeeded fails with `Store`, which goes to
+/// `errors`; a failed write there is ignored. If `desk` is `None`, no desk is open over files, and there is
+/// nothing to close.
 pub fn close_after<D: Disk + Drop, N: OpenPaths + Drop, E: Write>(
     status: u8,
     desk: Option<DeskAt<D, N>>,
@@ -31,7 +33,8 @@ pub fn close_after<D: Disk + Drop, N: OpenPaths + Drop, E: Write>(
     (exit, Some(closed))
 }
 
-// The exit report of a command whose desk was closed, or can't be.
+// The exit report of a command that ended with `status`, by the result of closing its desk. An error code
+// goes to `errors`; a failed write there is ignored.
 fn exit_closed<D: Disk, E: Write>(
     status: u8,
     closed: &CloseReport<D>,
@@ -47,8 +50,9 @@ fn exit_closed<D: Disk, E: Write>(
     }
 }
 
-// The exit report of a command whose desk can't be closed, or whose files were no longer at their paths: the
-// error `Store`, unless the command had failed before.
+// The exit report of a command whose desk can't be closed, or whose files were no longer at their paths. If
+// it had succeeded (`status` is 0), the error is `Store`, which goes to `errors`; a failed write there is
+// ignored. Else its status stays.
 fn exit_unclosed<E: Write>(status: u8, errors: &mut E) -> ExitReport<E>
     ensures { IsUnclosed status (ending result (E.contents errors.old) (E.contents errors.new)) }
 {
@@ -58,7 +62,7 @@ fn exit_unclosed<E: Write>(status: u8, errors: &mut E) -> ExitReport<E>
     ExitReport::silent(status)
 }
 
-/// The exit status of `close_after`. The files are dropped.
+/// The exit status in the result of `close_after`. The files are dropped.
 pub fn status_closed<D: Disk + Drop, E>(ended: (ExitReport<E>, Option<CloseReport<D>>)) -> u8
     ensures { result ≡ ended.0.status }
 {

@@ -19,14 +19,14 @@ use sqlite::{Start, Unknown};
 use std::alloc::Global;
 use std::io::Write;
 
-/// Runs the command `migrate`: puts the tables in canonical order if they are in another, migrates the plans,
-/// prints how many they are, closes the desk, and returns the exit status. The contract assumes nothing about
-/// the content of files.
+/// Runs the command `migrate` on a database of schema 1: puts the tables in canonical order if they are in
+/// another, migrates the plans, prints how many they are, closes the desk, and returns the exit status. Later
+/// errors are in that status. The contract assumes nothing about the content of files.
 ///
 /// # Errors
 ///
-/// Why the WAL or the table order refuses the file; `Memory` if memory runs out before the database is
-/// opened.
+/// Why the file is refused for its WAL, or can't be put in canonical order; `Memory` if memory runs out
+/// before the database is opened.
 #[tactic(auto, using(crate::proofs::LogLemmas::log_refuses))]
 pub fn migrate_here(host: LocalHost<'_>, database: &Database) -> Result<u8, ErrorCode>
     ensures { IfErr result (λ f. IsLogRefused false f ⊎ IsOpenFailure f) }
@@ -41,8 +41,9 @@ pub fn migrate_here(host: LocalHost<'_>, database: &Database) -> Result<u8, Erro
     Ok(status_closed(close_after(exit.status, desk, &mut errors)))
 }
 
-/// Prints how many plans were migrated, or the error code, and returns the exit report with the desk, if
-/// there is one. A failed write to `errors` is ignored.
+/// Prints how many plans were migrated to `output`, or the error code to `errors`, and returns the exit
+/// report with the desk, if there is one. `moved` is the result of the migration. A failed write to `errors`
+/// is ignored; one to `output` is an error, but the plans are migrated all the same.
 pub fn report_moved<F: Start, N: OpenPaths + Drop, W: Write, E: Write>(
     alloc: Global,
     moved: MovedDesk<F, N>,

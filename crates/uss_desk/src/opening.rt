@@ -3,7 +3,8 @@
 ghost use Rattle.std.specs.Prelude.{◌≡◌, IfErr, IfOk};
 ghost use Rattle.sqlite_wal.specs.Files.{image_at};
 ghost use Rattle.desk_rules.specs.Terms.{no_terms};
-ghost use Rattle.uss_desk.specs.OpenedFor.{IsBlank, IsMemory, IsMovedAt, IsMovedIn, IsOpenedAt, IsOpenedIn};
+ghost use Rattle.uss_desk.specs.OpenedFor.{IsBlank, IsMemory, IsMovedAt, IsMovedIn};
+ghost use Rattle.uss_desk.specs.OpenedFor.{IsOpenedAt, IsOpenedIn};
 ghost use Rattle.uss_desk.specs.Rolls.{HasNoted, HasNotedAt, HasNotedDesk};
 
 use crate::rolls::NotedOperators;
@@ -26,7 +27,7 @@ pub type DeskAt<D, N> = Desk<PathChecked<FileStore<D>, N>>;
 /// A desk in memory.
 pub type MemoryDesk = DeskAt<Ram, NoPaths>;
 
-/// A desk over the database in files, where `F` stands for their content before, and `N` for their paths.
+/// A desk over the database in files; the type `F` stands for their content before, and `N` are their paths.
 pub type FileDesk<F, N> = DeskAt<FileFrom<F>, N>;
 
 /// What was opened over a database: a desk in memory (`M`), or one over files (`D`).
@@ -38,8 +39,8 @@ pub enum Opened<M: Drop, D: Drop> {
     Files(D),
 }
 
-/// What is opened over a database, where `F` stands for the content of its files before, and `N` for their
-/// paths.
+/// What is opened over a database: a desk or why there is none; the type `F` stands for the content of its
+/// files before, and `N` are their paths.
 pub type OpenedDesk<F, N> = Opened<Result<MemoryDesk, ErrorCode>, FoundDesk<F, N>>;
 
 /// A desk over files, or why it can't be opened.
@@ -48,8 +49,8 @@ pub type FoundDesk<F, N> = Result<FileDesk<F, N>, FileOpenError<F>>;
 /// A desk over files and how many plans were migrated to it from schema 1, or why it can't be opened.
 pub type MovedDesk<F, N> = Result<(FileDesk<F, N>, u32), FileOpenError<F>>;
 
-/// Opens the desk over a database. `start` stands for the content of its files, and `paths` are theirs. The
-/// operators of a desk over files are noted in `roll`.
+/// Opens the desk over a database, in memory or in files. For files, `start` stands for their content,
+/// `paths` are theirs, and the operators of the desk are noted in `roll`.
 pub fn open_database<F: Start, N: OpenPaths + Drop>(
     host: LocalHost<'_>,
     database: &Database,
@@ -82,12 +83,12 @@ pub fn open_in_memory(alloc: Global) -> Result<MemoryDesk, ErrorCode>
 }
 
 /// Opens the desk over the database file at `path`. A missing file is made, and only its owner can read and
-/// write it. `start` stands for the content of the files, and `paths` are theirs. The operators are noted in
-/// `roll`.
+/// write it. `start` stands for the content of the files, and `paths` are theirs: which files they lead to is
+/// noted before opening, and again after it, for a file that was missing. The operators are noted in `roll`.
 ///
 /// # Errors
 ///
-/// The error code is that of `open_failure`.
+/// The files are refused; the error code is the `open_failure` of their fault.
 pub fn open_file<F: Start, N: OpenPaths + Drop>(
     host: LocalHost<'_>,
     path: &str,
@@ -111,7 +112,7 @@ pub fn open_file<F: Start, N: OpenPaths + Drop>(
 }
 
 /// The desk as if it was just opened: over the same store, without terms, and with its operators noted in
-/// `roll`.
+/// `roll` if they are needed there.
 pub fn opened_anew<D: Disk + Drop, N: OpenPaths + Drop>(
     desk: DeskAt<D, N>,
     roll: &mut NotedOperators,
@@ -124,13 +125,13 @@ pub fn opened_anew<D: Disk + Drop, N: OpenPaths + Drop>(
     Desk::new(store)
 }
 
-/// Opens the desk over a database that may be of schema 1, and migrates its plans; also returns how many they
-/// are. `start` stands for the content of its files, and `paths` are theirs.
+/// Opens the desk over a database that may be of schema 1, and migrates its plans to schema 2; also returns
+/// how many were migrated. `start` stands for the content of its files, and `paths` are theirs.
 ///
 /// # Errors
 ///
-/// The error code is that of `open_failure`, and `Store` for a database in memory, which can't have plans of
-/// schema 1.
+/// The files are refused; the error code is the `open_failure` of their fault. It is `Store` for a database
+/// in memory, which can't have plans of schema 1.
 pub fn open_old<F: Start, N: OpenPaths + Drop>(
     host: LocalHost<'_>,
     database: &Database,
@@ -145,8 +146,9 @@ pub fn open_old<F: Start, N: OpenPaths + Drop>(
     }
 }
 
-// Opens the desk over the database file at a path, migrates its plans of schema 1, and returns how many they
-// are.
+// Opens the desk over the database file at `path` and migrates its plans of schema 1; also returns how many
+// were migrated. `start` stands for the content of the files. Which files the `paths` lead to is noted before
+// opening, and again after it.
 fn open_old_file<F: Start, N: OpenPaths + Drop>(
     host: LocalHost<'_>,
     path: &str,

@@ -15,9 +15,10 @@ use sqlite_disk::Disk;
 use std::alloc::Global;
 use std::io::{Read, Write};
 
-/// Answers the requests of an input at the desk that was opened for `play`, and returns the exit report with
-/// the desk, if there is one. Each request is in the journal before the desk decides it, and each answer
-/// before it is sent. An error code goes to `errors`; a failed write there is ignored.
+/// Answers the requests of the input behind `port` at the desk that was opened for `play`, and returns the
+/// exit report with the desk, if there is one. `words` are the arguments of `play`. Each request is in the
+/// journal before the desk decides it, and each answer before it is sent. An error code goes to `errors`; a
+/// failed write there is ignored. If no desk was opened, its error code is reported, and nothing is read.
 pub fn play_line<D, N, R, W, K, E>(
     alloc: Global,
     words: &PlayArgs,

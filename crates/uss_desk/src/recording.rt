@@ -1,5 +1,6 @@
 //! The journal folder of a desk: what the last journal left pending is recovered at the open desk, and then
-//! the next one is begun. No contract says what the operating system did.
+//! the next journal is begun. No contract says what the operating system did. In reports a journal is called
+//! "record".
 
 ghost use Rattle.std.specs.Prelude.{◌≡◌, ◌⊎◌, ◌++◌, ◌↔◌, false, true, IfErr, IfOk, IfSome, IsSome, IsTrue};
 ghost use Rattle.std.specs.Prelude.{None, Ok, OnErr, OnOk, Some, option_map};
@@ -13,8 +14,8 @@ ghost use Rattle.uss_desk.specs.Finishing.{left_undone};
 ghost use Rattle.uss_desk.specs.LineRecord as spec;
 ghost use Rattle.uss_desk.specs.LineRecord.{BeginsAlone, LeavesNothing};
 ghost use Rattle.uss_desk.specs.OpenedLines.{AreReadsTested, RemembersDesk};
-ghost use Rattle.uss_desk.specs.Refused.{GoesOnUnless, HandsOn, IsKeptOut, IsUnbegun, IsUndoneAt, IsUnfound};
-ghost use Rattle.uss_desk.specs.Refused.{MayGoOn};
+ghost use Rattle.uss_desk.specs.Refused.{GoesOnUnless, HandsOn, MayGoOn, IsUndoneAt};
+ghost use Rattle.uss_desk.specs.Refused.{IsKeptOut, IsUnbegun, IsUnfound};
 ghost use Rattle.uss_desk.specs.Rolls.{HasNoted, HasNotedDesk};
 
 use crate::closing::close_after;
@@ -41,12 +42,13 @@ use std::fs::{self, File};
 use std::io::{self, Write};
 use std::time::SystemTime;
 
-/// The file of a journal. That it can't be written is reported on the standard error, once.
+/// The file of a journal in `folder`. The first failed write is reported on the standard error.
 #[derive(Drop)]
 pub struct LocalJournal<'s> {
     host: LocalHost<'s>,
     folder: &'s str,
     file: File,
+    // whether a failed write was reported
     is_reported: bool,
 }
 
@@ -57,7 +59,8 @@ pub struct FileError {
 }
 
 impl LocalJournal<'_> {
-    // Returns the result of writing the journal; the first error is reported.
+    // Returns `done`, the result of writing the journal. If it is an error, and the first one, it is
+    // reported. A failed write of the report and running out of memory are ignored.
     fn report_error(&mut self, done: io::Result<()>) -> Result<(), FileError>
         ensures { HandsOn done self.old self.new result }
     {
@@ -81,11 +84,13 @@ impl LocalJournal<'_> {
 impl Journal for LocalJournal<'_> {
     type Fault = FileError;
 
+    // Appends `bytes` to the file. The first error is reported.
     fn append(&mut self, bytes: &[u8]) -> Result<(), FileError> {
         let done = self.file.write_all(bytes);
         self.report_error(done)
     }
 
+    // Flushes the file's data to the disk. The first error is reported.
     fn sync(&mut self) -> Result<(), FileError> {
         let done = self.file.sync_data();
         self.report_error(done)
@@ -103,28 +108,31 @@ pub struct JournalFolder<'s> {
     // the number of the last journal and its size in bytes; 0 if there is none
     number: u64,
     len: u64,
-    // whether both were confirmed once the desk was open, when no other desk of its file writes here
+    // whether both were found unchanged once the desk was open: then no other desk of its file writes here
     is_held: bool,
     // the recovery that the last journal asks for, until it is done
     undone: Option<PendingRecovery<'s>>,
 }
 
-// The recovery that the last journal asks for at a database file: what the journal's end says, and what
-// follows its last whole entry.
+// The recovery that the last journal asks for at a database file.
 #[derive(Drop)]
 struct PendingRecovery<'s> {
+    // the path of the database file
     file: &'s str,
+    // the last journal
     record: JournalFile,
+    // what its whole entries say
     tail: Tail,
+    // what follows its last whole entry
     ended: TailEnd,
 }
 
-/// The journal folder of a command, if it names one, before its desk is opened.
+/// The journal folder of the command `action`, if its arguments `words` name one, before its desk is opened.
 ///
 /// # Errors
 ///
 /// `Store` if the database is in memory, or its file is missing; `Write` if the folder can't be read, or its
-/// last journal can't be continued; `Memory`. The cause is reported.
+/// last journal can't be continued; `Memory`. The cause is reported, unless memory ran out.
 pub fn folder_for<'s>(
     host: LocalHost<'s>,
     words: &'s DeskArgs,
@@ -154,7 +162,7 @@ pub fn folder_for<'s>(
     }))
 }
 
-// The number and the size in bytes of a folder's last journal, both 0 if there is none.
+// The number and the size in bytes of the last journal of a folder; both are 0 if there is none.
 fn extent_of(last: &Option<JournalFile>) -> (u64, u64)
     ensures { result ≡ spec.extent_of last.now }
 {
@@ -164,8 +172,9 @@ fn extent_of(last: &Option<JournalFile>) -> (u64, u64)
     }
 }
 
-// The pending recovery of a desk in memory: none, since it continues no journal. Only `play` may write one,
-// in an empty folder.
+// The pending recovery of a desk in memory: none, since such a desk continues no journal. Only if `action` is
+// `play`, and the folder has no journals (`has_records`), a journal can be written; else the cause is
+// reported.
 fn recovery_in_memory<'s>(
     host: LocalHost<'_>,
     folder: &str,
@@ -187,7 +196,8 @@ fn recovery_in_memory<'s>(
     }
 }
 
-// The recovery that the last journal of a folder asks for at the database file `file`, if any.
+// The recovery that the `last` journal of a folder asks for at the database file `file`, if any. If there is
+// a journal and the file doesn't exist, or the journal can't be continued, the cause is reported.
 fn recovery_at<'s>(
     host: LocalHost<'_>,
     folder: &str,
@@ -214,7 +224,7 @@ fn recovery_at<'s>(
     }))
 }
 
-// `left`, if there is anything to recover.
+// The recovery `left`, if it has anything to do; else `None`.
 fn recovery_if_any(left: PendingRecovery<'_>) -> Option<PendingRecovery<'_>>
     ensures none { LeavesNothing left.entry.tail left.entry.ended → result ≡ None }
     ensures some { (result ≡ Some left.entry) ⊎ LeavesNothing left.entry.tail left.entry.ended }
@@ -225,7 +235,7 @@ fn recovery_if_any(left: PendingRecovery<'_>) -> Option<PendingRecovery<'_>>
     Some(left)
 }
 
-// What the end of the last journal says, or why that can't be continued.
+// What the last journal says, and what follows its last whole entry; or why the journal can't be continued.
 fn read_last(host: LocalHost<'_>, last: &JournalFile) -> Result<(Tail, TailEnd), JournalError>
     ensures { IfOk result (λ read. MayGoOn last.now.number read.0 read.1) }
 {
@@ -233,7 +243,8 @@ fn read_last(host: LocalHost<'_>, last: &JournalFile) -> Result<(Tail, TailEnd),
     check_tail(last.number, tail, ended)
 }
 
-// The end of a journal, or why that can't be continued.
+// The journal's `tail` and what follows it (`ended`); or why the journal can't be continued, of which
+// `number` is the number in the file name.
 fn check_tail(number: u64, tail: Tail, ended: TailEnd) -> Result<(Tail, TailEnd), JournalError>
     ensures { GoesOnUnless (spec.cause_of_tail number tail.record ended) (tail, ended) result }
 {
@@ -243,28 +254,30 @@ fn check_tail(number: u64, tail: Tail, ended: TailEnd) -> Result<(Tail, TailEnd)
     }
 }
 
-// Why a journal can't be continued, if so: by the number in its name, the number in its first entry if that
-// is whole (`begun`), and what follows its last whole entry (`ended`).
-fn cause_of_tail(number: u64, begun: Option<u64>, ended: TailEnd) -> Option<&'static str>
-    ensures { option_map (λ cause. cause.now) result ≡ spec.cause_of_tail number begun ended }
+// Why a journal can't be continued, or `None` if it can: by the `number` in its file name, the number in its
+// first entry, if that is whole (`first_number`), and what follows its last whole entry (`ended`).
+fn cause_of_tail(number: u64, first_number: Option<u64>, ended: TailEnd) -> Option<&'static str>
+    ensures { option_map (λ cause. cause.now) result ≡ spec.cause_of_tail number first_number ended }
 {
-    match (begun, ended) {
+    match (first_number, ended) {
         (None, TailEnd::End) => Some("its last record is empty"),
         (_, TailEnd::Damaged) | (None, TailEnd::Short) => Some("its last record is damaged"),
-        (Some(begun), _) if begun != number => Some("its last record has another number"),
+        (Some(first_number), _) if first_number != number => Some("its last record has another number"),
         (Some(_), _) => None,
     }
 }
 
-// Whether a journal leaves nothing to recover: it is whole, its last request is answered, and no enrolment
-// follows that.
+// Whether a journal leaves nothing to recover: it ends with a whole entry, its last request is answered, and
+// no enrolment follows that request.
 fn is_complete(tail: &Tail, ended: TailEnd) -> bool
     ensures { IsTrue result ↔ LeavesNothing tail.now ended }
 {
     ended == TailEnd::End && tail.asked.is_none() && tail.operators.is_empty()
 }
 
-// The value; or the error code, once its cause is reported.
+// The value in `done`, the result of something done in the journal folder; or the error code. For a cause,
+// this is `Write`, and the cause is reported under the name of the `folder`; a failed write of that is
+// ignored.
 fn or_report<T: Drop>(
     host: LocalHost<'_>,
     folder: &str,
@@ -283,7 +296,8 @@ fn or_report<T: Drop>(
     }
 }
 
-// Reports the cause at a path, and returns the error code `Store`.
+// Reports the cause for the file at `path`, and returns the error code `Store`. A failed write and running
+// out of memory are ignored.
 fn report_store_failure(host: LocalHost<'_>, path: &str, cause: &str) -> ErrorCode
     ensures { result ≡ ErrorCode.Store }
 {
@@ -300,13 +314,14 @@ impl<'s> JournalFolder<'s> {
     }
 
     /// Recovers at the open desk what the last journal left pending. Returns the desk as if it was just
-    /// opened, with its operators noted in `roll`. If recovery fails, the desk is closed.
+    /// opened, with its operators noted in `roll`. If nothing is pending, returns the desk as it is. If the
+    /// recovery fails, the desk is closed.
     ///
     /// # Errors
     ///
     /// `Write` if the folder can't be read or written, or its last journal has changed; `Store` if the desk
-    /// fails or can't be closed; `Broken` if a request can't be recorded; `Memory`; `Clock`. The cause is
-    /// reported.
+    /// fails or can't be closed; `Broken` if the repeated request or its answer can't be recorded; `Memory`;
+    /// `Clock` if the second of that request is out of range. A failure of a file is reported.
     pub fn finish<D: Disk + Drop, N: OpenPaths + Drop>(
         &mut self,
         mut desk: DeskAt<D, N>,
@@ -327,7 +342,9 @@ impl<'s> JournalFolder<'s> {
         }
     }
 
-    // Recovers at a desk what the last journal left pending.
+    // Recovers at a desk what the last journal left pending (`undone`). A truncated entry is moved out of
+    // that journal first. `roll` has the operators of the desk. A repeated request is written to the next
+    // journal.
     fn recover<D: Disk + Drop, N: OpenPaths + Drop>(
         &mut self,
         undone: PendingRecovery<'_>,
@@ -374,8 +391,9 @@ impl<'s> JournalFolder<'s> {
         Ok(())
     }
 
-    // Checks that the last journal and its size are unchanged, unless that was done before. The desk is open,
-    // so from now on no other desk of its file writes here.
+    // Checks that the folder's last journal and its size are unchanged, unless that was done before. If they
+    // have changed, the folder is in use: that is reported, and the error is `Write`. Now that the desk is
+    // open, no other desk of its file writes here.
     fn check_unchanged(&mut self) -> Result<(), ErrorCode>
         ensures held { OnOk result (self.new ≡ record self.old { is_held = true }) }
         ensures same { OnErr result (self.new ≡ self.old) }
@@ -395,11 +413,13 @@ impl<'s> JournalFolder<'s> {
         Ok(())
     }
 
-    /// Begins the journal of a command, if its desk is open.
+    /// Begins the journal of a command, if its desk is open (`is_open`): with the settings `terms`, the
+    /// operators in `roll`, and those that the command enrols (`enrolments`).
     ///
     /// # Errors
     ///
-    /// As `begin`.
+    /// `Write` if the folder can't be written, or its last journal has changed; `Memory`; `Clock` if the
+    /// clock can't be read.
     pub fn begin_if(
         self,
         is_open: bool,
@@ -417,13 +437,14 @@ impl<'s> JournalFolder<'s> {
         Ok(Some(self.begin(terms, enrolments, roll)?))
     }
 
-    /// Begins the journal of a command at its open desk: with the terms, the operators in `roll`, and those
-    /// that the command enrols.
+    /// Begins the journal of a command at its open desk: with the settings `terms`, the operators in `roll`,
+    /// and those that the command enrols (`enrolments`). It gets its final name once these entries are on the
+    /// disk.
     ///
     /// # Errors
     ///
-    /// `Write` if the folder can't be written, or its last journal has changed; `Memory`; `Clock`. The cause
-    /// is reported.
+    /// `Write` if the folder can't be written, or its last journal has changed: the cause is reported;
+    /// `Memory`; `Clock` if the clock can't be read.
     fn begin(
         mut self,
         terms: &Terms,
@@ -446,8 +467,9 @@ impl<'s> JournalFolder<'s> {
     }
 }
 
-// Closes a desk that failed, and returns its error code; or `Store`, which is reported, if it can't be
-// closed.
+// Closes a desk whose recovery failed, and returns that error code (`failure`). If the desk can't be closed,
+// or its files weren't at their paths, this is reported for the database file `file`, and the code is
+// `Store`.
 fn close_failed<D: Disk + Drop, N: OpenPaths + Drop>(
     host: LocalHost<'_>,
     file: &str,
@@ -456,13 +478,15 @@ fn close_failed<D: Disk + Drop, N: OpenPaths + Drop>(
 ) -> ErrorCode
     ensures { FailsClosed desk failure result }
 {
+    // With the status 1 of a failed command, `close_after` itself prints nothing.
     if is_closed(close_after(1, Some(desk), &mut host.errors())) {
         return failure;
     }
     report_store_failure(host, file, "it can't be closed")
 }
 
-// Whether a desk was closed, with its files at their paths.
+// Whether a desk was closed, with its files at their paths, by the result of `close_after`; false if there
+// was no desk over files.
 fn is_closed<D: Disk + Drop, E>(ended: (ExitReport<E>, Option<CloseReport<D>>)) -> bool
     ensures { result ≡ files.is_closed ended.1 }
 {
@@ -472,7 +496,8 @@ fn is_closed<D: Disk + Drop, E>(ended: (ExitReport<E>, Option<CloseReport<D>>)) 
     }
 }
 
-// The number of the next journal; the error `Write`, which is reported, if 64 bits don't hold it.
+// The number of the journal after the one with `number`; the error `Write`, which is reported, if 64 bits
+// don't hold it.
 fn next_number(host: LocalHost<'_>, folder: &str, number: u64) -> Result<u64, ErrorCode>
     ensures { result ≡ spec.next_number number }
 {
@@ -482,7 +507,7 @@ fn next_number(host: LocalHost<'_>, folder: &str, number: u64) -> Result<u64, Er
     }
 }
 
-// `operators` followed by `others`.
+// `operators` followed by `others`. Fails if memory runs out.
 fn joined(mut operators: Vec<Enrolment>, others: &[Enrolment]) -> Result<Vec<Enrolment>, AllocError>
     ensures { IfOk result (λ all. all.items ≡ operators.items ++ others.now) }
 {
@@ -490,7 +515,9 @@ fn joined(mut operators: Vec<Enrolment>, others: &[Enrolment]) -> Result<Vec<Enr
     Ok(operators)
 }
 
-// Makes the file of a new journal under its temporary name, and writes the first entries.
+// Makes the file of a new journal in `folder` under its temporary name, and writes its first entries: its
+// `number`, the settings `terms` and the `operators`. If that fails, the error is `Write` or `Memory`, and a
+// failure of the file is reported.
 fn begin_part<'s>(
     host: LocalHost<'s>,
     folder: &'s str,
@@ -512,7 +539,7 @@ fn begin_part<'s>(
     }
 }
 
-// The Unix second of the clock; the error `Clock` if the clock can't be read or is before 1970.
+// The present Unix second; the error `Clock` if the clock can't be read or is before 1970.
 fn second_now(host: LocalHost<'_>) -> Result<u64, ErrorCode>
     ensures { IfErr result (λ f. f ≡ ErrorCode.Clock) }
 {
@@ -525,7 +552,8 @@ fn second_now(host: LocalHost<'_>) -> Result<u64, ErrorCode>
     }
 }
 
-// A repeated request, or its answer, can't be recorded. The cause was reported.
+// The error that a repeated request, or its answer, can't be recorded. If a file is the cause, that was
+// reported.
 #[derive(Drop)]
 struct RecordError;
 
@@ -534,14 +562,17 @@ struct RecordError;
 struct LocalRecoveryJournal<'s> {
     host: LocalHost<'s>,
     folder: &'s str,
+    // the number, the settings and the operators with which it begins
     number: u64,
     terms: Terms,
     operators: Vec<Enrolment>,
+    // the journal itself, once it has the request
     record: Option<LocalRecord<'s>>,
 }
 
 impl<'s> LocalRecoveryJournal<'s> {
-    // Makes the journal with the request in it, under its final name.
+    // Makes the journal with the request (`bytes`, decided at `moment`) in it, and then gives it its final
+    // name.
     fn begin(&mut self, moment: Moment, bytes: &[u8]) -> Result<LocalRecord<'s>, ErrorCode>
         ensures same { self.new ≡ self.old }
         ensures fault { IfErr result IsUnbegun }
@@ -570,10 +601,12 @@ impl<'s> LocalRecoveryJournal<'s> {
 impl Record for LocalRecoveryJournal<'_> {
     type Fault = RecordError;
 
+    // Never called: a recovery brings no new enrolments.
     fn append_new_enrolments(&mut self, _news: &[Enrolment]) -> Result<(), RecordError> {
         Err(RecordError)
     }
 
+    // Makes the journal with the request in it.
     fn append_request(&mut self, moment: Moment, bytes: &[u8]) -> Result<(), RecordError> {
         self.record = self.begin(moment, bytes).ok();
         match self.record {
@@ -582,6 +615,7 @@ impl Record for LocalRecoveryJournal<'_> {
         }
     }
 
+    // Appends the answer and flushes it: no request follows that would flush it.
     fn append_answer(&mut self, connection: Exchange<'_>) -> Result<(), RecordError> {
         let Some(record) = &mut self.record else {
             return Err(RecordError);
@@ -592,5 +626,6 @@ impl Record for LocalRecoveryJournal<'_> {
         Err(RecordError)
     }
 
+    // Writes nothing: a journal has no entry for a lost answer.
     fn note_lost_answer(&mut self, _connection: Exchange<'_>) {}
 }

@@ -24,12 +24,12 @@ use sqlite_disk::Disk;
 use std::alloc::Global;
 use std::io::{BufReader, Read, Write};
 
-/// Runs the command `replay`: plays the journal of the standard input, closes the desk, and returns the exit
-/// status. The contract assumes nothing about the content of files.
+/// Runs the command `replay` with its arguments `words`: plays the journal of the standard input at the desk,
+/// closes the desk, and returns the exit status. The contract assumes nothing about the content of files.
 ///
 /// # Errors
 ///
-/// Why the WAL of its file refuses that; `Memory` if memory runs out before the database is opened.
+/// Why the database file is refused for its WAL; `Memory` if memory runs out before the database is opened.
 #[tactic(auto, using(crate::proofs::LogLemmas::log_refuses))]
 pub fn replay_here(host: LocalHost<'_>, words: &ReplayArgs) -> Result<u8, ErrorCode>
     ensures { IfErr result (IsLogRefused false) }
@@ -63,9 +63,11 @@ pub fn replay_here(host: LocalHost<'_>, words: &ReplayArgs) -> Result<u8, ErrorC
     }
 }
 
-/// Plays the journal of the input at the desk that was opened, prints how many requests were played, and
-/// returns the exit report with the desk, if there is one. If an entry can't be played, its place and the
-/// cause go to `errors` before the error code.
+/// Plays the journal of `input` at the desk that was opened, up to the first request whose Unix second is
+/// greater than `until`, if that is given. Prints to `output` how many requests were played and how many of
+/// them changed the database, and returns the exit report with the desk, if there is one. If an entry can't
+/// be played, its place and the cause go to `errors` before the error code; a failed write there is ignored.
+/// If no desk was opened, only its error code is reported.
 pub fn replay_line<D: Disk + Drop, N: OpenPaths + Drop, R: Read, W: Write, E: Write>(
     alloc: Global,
     until: Option<u64>,

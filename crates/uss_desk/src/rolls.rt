@@ -1,4 +1,4 @@
-//! The operators that a desk has as it is opened, with which its journal begins.
+//! The operators that a desk has when it is opened: its journal begins with them.
 
 ghost use Rattle.std.specs.Prelude.{◌≡◌, ◌↔◌, [], IfOk, IsTrue, None, false, is_none, map};
 ghost use Rattle.std.specs.Option.{IsSomeAnd};
@@ -13,17 +13,20 @@ use sqlite::FileStore;
 use sqlite_disk::Disk;
 use std::alloc::{AllocError, Global};
 
-/// The operators that a desk has as its journal begins, if they are needed (`is_wanted`).
+/// The operators that a desk has when its journal begins.
 #[derive(Drop)]
 pub struct NotedOperators {
+    // whether the operators are needed, since the command writes a journal
     is_wanted: bool,
     // whether it is known that the desk has no operator
     is_empty: bool,
+    // the operators; `None` if they aren't wanted, memory ran out for them, or they were taken
     operators: Option<Vec<Enrolment>>,
 }
 
 impl NotedOperators {
-    /// Nothing is noted yet of the desk over `database`; in memory it is known to have no operator.
+    /// Before the desk over `database` is opened: no operators are noted. A desk in memory is known to have
+    /// none. `is_wanted` says whether `note` is to note them.
     pub fn new(alloc: Global, database: &Database, is_wanted: bool) -> NotedOperators
         ensures wanted { result.is_wanted ≡ is_wanted }
         ensures empty { result.is_empty ≡ is_none (file_of database.now) }
@@ -36,7 +39,8 @@ impl NotedOperators {
         }
     }
 
-    /// Notes the operators of a store, if they are needed; none if memory runs out.
+    /// Notes the operators of a store, if they are needed. `take` returns `None` afterwards if they aren't,
+    /// or if they can't be read because memory runs out. Also notes whether it is known that there are none.
     pub fn note<D: Disk + Drop>(&mut self, store: &SqliteStore<FileStore<D>>)
         ensures noted { HasNoted store.now self.new }
         ensures wanted { self.new.is_wanted ≡ self.old.is_wanted }
@@ -59,8 +63,8 @@ impl NotedOperators {
         self.is_empty
     }
 
-    /// Takes the operators noted last, in the order of the store; the empty list if `note` was never called.
-    /// `None` if they weren't wanted, if memory ran out for them, or if they are taken already.
+    /// Takes the operators that were noted last, in the order of the store; the empty list if `note` was
+    /// never called. `None` if they weren't wanted, if memory ran out for them, or if they were taken before.
     pub fn take(&mut self) -> Option<Vec<Enrolment>>
         ensures taken { result ≡ self.old.operators }
         ensures rest { self.new ≡ record self.old { operators = None } }
@@ -69,7 +73,7 @@ impl NotedOperators {
     }
 }
 
-// Whether operators were noted, and there is none.
+// Whether `operators` were noted (`Some`), and there are none.
 fn has_none(operators: &Option<Vec<Enrolment>>) -> bool
     ensures { IsTrue result ↔ IsSomeAnd operators.now (λ all. all.items ≡ []) }
 {
@@ -79,7 +83,7 @@ fn has_none(operators: &Option<Vec<Enrolment>>) -> bool
     }
 }
 
-// The operators of a store with their ceilings.
+// The operators of a store with their ceilings, in its order. Fails if memory runs out.
 fn operators_of<D: Disk + Drop>(
     store: &SqliteStore<FileStore<D>>,
 ) -> Result<Vec<Enrolment>, AllocError>
@@ -90,7 +94,7 @@ fn operators_of<D: Disk + Drop>(
     enrolments_of(*listed.allocator(), &listed)
 }
 
-// Listed operators, as enrolments.
+// The `listed` operators of a store, as enrolments in the same order. Fails if memory runs out.
 fn enrolments_of(alloc: Global, listed: &[ListedOperator]) -> Result<Vec<Enrolment>, AllocError>
     ensures { IfOk result (λ all. map as_listed all.items ≡ listed.now) }
 {

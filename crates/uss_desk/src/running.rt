@@ -1,4 +1,4 @@
-//! A command run at the desk that was opened for it, over any disk, streams and port.
+//! Runs a command at the desk that was opened for it, over any disk, streams and port.
 
 ghost use Rattle.sqlite.specs.Files.{over_files};
 ghost use Rattle.desk_cli.specs.Lines.{IsLine, line_of};
@@ -15,8 +15,9 @@ use sqlite_disk::Disk;
 use std::alloc::Global;
 use std::io::{Read, Write};
 
-/// Runs a command at the desk that was opened for it, and returns the exit report with the desk, if there is
-/// one. An error code goes to `errors`; a failed write there is ignored.
+/// Runs the command `action` at the desk that was opened for it, and returns the exit report with the desk,
+/// if there is one. If no desk was opened, only its error code is reported. An error code goes to
+/// `streams.errors`; a failed write there is ignored.
 pub fn run_line<D, N, P, R, W, E>(
     alloc: Global,
     action: DeskCommand<'_>,

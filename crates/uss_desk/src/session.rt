@@ -35,22 +35,28 @@ use sqlite::Unknown;
 use sqlite_disk::Disk;
 use std::io::{BufReader, Stderr, Stdin, Stdout, Write};
 
-/// What a command needs beside its desk and the desk's paths.
+/// What a command has at hand, apart from its desk and the desk's paths.
 #[derive(Drop)]
 struct Session<'s> {
     host: LocalHost<'s>,
+    // the arguments of the command that all commands with a desk have
     words: &'s DeskArgs,
     // the operators that it enrols first
     enrolments: &'s [Enrolment],
     streams: Streams<BufReader<Stdin>, Stdout, Stderr>,
+    // the file of enrolments that the arguments name, if any
     enrolment_file: EnrolmentFile<'s, LocalHost<'s>>,
     // the folder of its journal, if it keeps one
     folder: Option<JournalFolder<'s>>,
+    // the operators that the desk has when it is opened
     roll: NotedOperators,
 }
 
 impl<'s> Session<'s> {
-    // Prepares what a command needs, and the paths of its database. The desk isn't opened yet.
+    // Prepares the command `action` with its arguments `words` and the `enrolments` that it makes first, and
+    // the paths of its database: checks the WAL and the file of enrolments, puts the tables in canonical
+    // order, and reads the end of the last journal. The desk isn't opened yet. If that fails, the cause is
+    // reported, unless memory ran out.
     fn prepare(
         host: LocalHost<'s>,
         words: &'s DeskArgs,
@@ -84,7 +90,8 @@ impl<'s> Session<'s> {
         Ok((session, paths))
     }
 
-    // Whether the last journal left anything to recover: then the database file must exist.
+    // Whether the last journal left anything to recover: then the database file has to exist. False without a
+    // journal.
     fn needs_recovery(&self) -> bool
         ensures { result ≡ is_some (spec.undone_of self.now.folder) }
     {
@@ -94,7 +101,9 @@ impl<'s> Session<'s> {
         }
     }
 
-    // The desk that was opened over files, once what the last journal left pending is recovered there.
+    // Recovers what the last journal left pending at the desk that was opened over files, and returns that
+    // desk. If that fails, the desk is closed and the error returned; an error of opening is returned as it
+    // is.
     fn recover<D: Disk + Drop, N: OpenPaths + Drop>(
         &mut self,
         opened: Result<DeskAt<D, N>, ErrorCode>,
@@ -121,7 +130,8 @@ impl<'s> Session<'s> {
         self.roll.is_empty() && enrols_none(self.words, self.enrolments)
     }
 
-    // Reports that no operator is enrolled, if the desk is known to have none and the command enrols none.
+    // Reports to `errors` that no operator is enrolled, if the desk is known to have none and the command
+    // enrols none. A failed write and running out of memory are ignored.
     fn report_if_unenrolled<E: Write>(&self, errors: &mut E)
         ensures reported { IsUnenrolled self.now
             → IsWrittenIfRoom (unenrolled_line (file_of self.now.words.now.database))
@@ -134,8 +144,10 @@ impl<'s> Session<'s> {
         }
     }
 
-    // Runs a command at the desk that was opened for it, and returns the exit status with the desk. If the
-    // command keeps a journal, each request of its input or port is recorded.
+    // Runs the command `action` at the desk that was opened for it, and returns the exit status with the
+    // desk, if there is one. If the command keeps a journal, each request of its input or port is recorded.
+    // If the journal can't be begun, the command doesn't run. An error code is printed; a failed write of it
+    // is ignored.
     fn run<D: Disk + Drop, N: OpenPaths + Drop>(
         self,
         action: DeskCommand<'_>,
@@ -183,21 +195,22 @@ impl<'s> Session<'s> {
     }
 }
 
-// Whether a command enrols no operator, and names no file of enrolments.
+// Whether a command enrols no operator: neither by its `enrolments` nor by a file that its `words` name.
 fn enrols_none(words: &DeskArgs, enrolments: &[Enrolment]) -> bool
     ensures { IsTrue result ↔ (enrolments.now ≡ []) × (words.now.operators ≡ None) }
 {
     enrolments.is_empty() && words.operators.is_none()
 }
 
-/// Runs a command at its desk with the standard streams, the network and the clock, closes the desk, and
-/// returns the exit status. Tables in a non-canonical order are reordered first. The contract assumes nothing
-/// about the content of files.
+/// Runs the command `action`, with the arguments `words` and the operators that it enrols first
+/// (`enrolments`). It runs at its desk with the standard streams, the network and the clock. Tables in a
+/// non-canonical order are reordered first. Then the desk is closed, and the exit status returned. The
+/// contract assumes nothing about the content of files.
 ///
 /// # Errors
 ///
-/// Why the desk isn't opened: its WAL, its file of enrolments, its tables or its journal folder, which is
-/// reported; or memory ran out.
+/// Why the desk isn't opened: its WAL, its file of enrolments, its table order or its journal folder, which
+/// is reported; or memory ran out. Later errors are in the exit status.
 pub fn at_desk(
     host: LocalHost<'_>,
     words: &DeskArgs,

@@ -26,22 +26,22 @@ use sqlite_trees::store::Alter;
 use std::marker::Model;
 use volume4d::{Held, Slab};
 
-/// The result of closing a desk over files.
+/// The result of closing a desk over files of a disk `D`.
 #[derive(Drop)]
 pub struct CloseReport<D: Disk> {
     /// The files, with the WAL checkpointed into the database file; or why that failed.
     pub files: Result<Files<D>, CheckpointError<D>>,
-    /// Whether they were at their paths until then.
+    /// Whether the files were at their paths right before they were closed.
     pub are_at_paths: bool,
 }
 
-/// A store over tables that applies a change only while its files are at their paths, since a change of a
-/// file that was moved or removed would be lost.
+/// A store over tables that applies a change only while its files are at their paths: a change of a file that
+/// was moved or removed would be lost. All other calls go to the store inside.
 #[derive(Drop)]
 pub struct PathChecked<S: Alter, N: Drop> {
     store: SqliteStore<S>,
     paths: N,
-    // the number of refused changes, which saturates
+    // how many changes were refused since the files weren't at their paths; the count saturates
     refused: u64,
 }
 
@@ -81,8 +81,8 @@ impl<D: Disk + Drop, N: OpenPaths + Drop> PathChecked<FileStore<D>, N> {
         roll.note(&self.store);
     }
 
-    /// Checkpoints the WAL into the database file, wherever that is. Returns the files, and whether they were
-    /// at their paths.
+    /// Checkpoints the WAL into the database file, even if that isn't at its path any more. Returns the
+    /// files, or why that failed; and whether the files were at their paths before.
     pub fn close(self) -> CloseReport<D>
         ensures copied { IfOk result.files (λ files. AreClean D.Disk files.log files.db →
             IsCopied self.held files) }
@@ -93,7 +93,7 @@ impl<D: Disk + Drop, N: OpenPaths + Drop> PathChecked<FileStore<D>, N> {
     }
 }
 
-// Checks whether the files of a store are at their paths, and closes it.
+// Checks whether the files of a store are at their `paths`, and then closes the store in any case.
 fn close_at<D: Disk + Drop, N: OpenPaths>(
     store: SqliteStore<FileStore<D>>,
     paths: &mut N,
@@ -120,8 +120,8 @@ fn are_at_paths<N: OpenPaths>(paths: &mut N) -> bool
     paths.has_log()
 }
 
-// Applies a change if the files of the store are at their paths; else fails with `Store`, and counts that in
-// `refused`.
+// Applies a change if the files of the store are at their `paths`; else fails with `Store`, and adds one to
+// `refused`, the count of such failures.
 // Long: what each store owes, and that its paths are checked first.
 fn apply_at<S: PlanStore, N: OpenPaths>(
     store: &mut S,
@@ -218,6 +218,7 @@ impl<S: Alter, N: OpenPaths + Drop> PlanStore for PathChecked<S, N> {
         self.store.held_by_others(operator, extents)
     }
 
+    // Applies a change if the files are at their paths; else fails with `Store`, and counts that.
     fn apply(&mut self, change: &Change) -> Result<(), StoreFault> {
         apply_at(&mut self.store, &mut self.paths, &mut self.refused, change)
     }
