@@ -2,32 +2,32 @@
 use Rattle.std.proofs.Common.{◌≡◌, ◌∙◌, ◌+◌, ◌-◌, ◌*◌, ◌/◌, ◌%◌, ◌++◌, ℕ, List, [], add-one, ap, append_assoc, arith, refl, sym}
 use Rattle.std.proofs.lemmas.Nat.{div-add-mod'}
 use Rattle.cell_picture.specs.Frame.{product64}
-use Rattle.cell_picture.specs.Picture.{level, levels, upright, uprights}
+use Rattle.cell_picture.specs.Picture.{level, horizontal_lines_text, vertical_line_text, vertical_lines_text}
 
 pub floored : (number step : ℕ) → number - number % step ≡ number / step * step
 floored number step = omega (arith, div-add-mod' number step)
 
-pub no_upright : (step height : ℕ) → [] ≡ uprights step height 0
-unfolding uprights
+pub no_upright : (step height : ℕ) → [] ≡ vertical_lines_text step height 0
+unfolding vertical_lines_text
 no_upright step height = refl
 
-pub one_upright : (step height n : ℕ) (old new : List ℕ) → old ≡ uprights step height n
-    → new ≡ old ++ upright (product64 n step) height → new ≡ uprights step height (n + 1)
-unfolding uprights
+pub one_upright : (step height n : ℕ) (old new : List ℕ) → old ≡ vertical_lines_text step height n
+    → new ≡ old ++ vertical_line_text (product64 n step) height → new ≡ vertical_lines_text step height (n + 1)
+unfolding vertical_lines_text
 one_upright step height n old new before next =
-    next ∙ ap (λ text. text ++ upright (product64 n step) height) before
-    ∙ ap (uprights step height) (sym (add-one n))
+    next ∙ ap (λ text. text ++ vertical_line_text (product64 n step) height) before
+    ∙ ap (vertical_lines_text step height) (sym (add-one n))
 
-pub no_level : (step width height : ℕ) → [] ≡ levels step width height 0
-unfolding levels
+pub no_level : (step width height : ℕ) → [] ≡ horizontal_lines_text step width height 0
+unfolding horizontal_lines_text
 no_level step width height = refl
 
-pub one_level : (step width height n : ℕ) (old new : List ℕ) → old ≡ levels step width height n
-    → new ≡ old ++ level (height - product64 n step) width → new ≡ levels step width height (n + 1)
-unfolding levels
+pub one_level : (step width height n : ℕ) (old new : List ℕ) → old ≡ horizontal_lines_text step width height n
+    → new ≡ old ++ level (height - product64 n step) width → new ≡ horizontal_lines_text step width height (n + 1)
+unfolding horizontal_lines_text
 one_level step width height n old new before next =
     next ∙ ap (λ text. text ++ level (height - product64 n step) width) before
-    ∙ ap (levels step width height) (sym (add-one n))
+    ∙ ap (horizontal_lines_text step width height) (sym (add-one n))
 
 -- parts one after the other
 pub three : (a b c t u v : List ℕ) → t ≡ a → u ≡ t ++ b → v ≡ u ++ c → v ≡ a ++ (b ++ c)

@@ -17,8 +17,8 @@ abbrev pub product64 : ℕ → ℕ → ℕ
 product64 a b = min (a * b) (2 ^ 64 - 1)
 
 -- the greatest multiple of `step` that is at most `number`
-abbrev pub floor_of : ℕ → ℕ → ℕ
-floor_of number step = number / step * step
+abbrev pub rounded_down : ℕ → ℕ → ℕ
+rounded_down number step = number / step * step
 
 -- the greater of the two distances between the least and the greatest coordinate of a rectangle
 abbrev pub longer_side : RectParts → ℕ
@@ -35,10 +35,10 @@ margin_of rect step = max (longer_side rect / 4) step
 
 -- the least coordinate that is shown, and the one after the greatest, in whole squares of the grid
 abbrev pub shown_from : ℕ → ℕ → ℕ → ℕ
-shown_from least margin step = floor_of (least - margin) step
+shown_from least margin step = rounded_down (least - margin) step
 
 abbrev pub shown_to : ℕ → ℕ → ℕ → ℕ
-shown_to greatest margin step = min (sum64 (floor_of (sum64 greatest margin) step) step) (2 ^ 30)
+shown_to greatest margin step = min (sum64 (rounded_down (sum64 greatest margin) step) step) (2 ^ 30)
 
 -- the frame is the part of the face that is shown for a rectangle
 pub record IsFrame (rect : RectParts) (frame : Frame) : Type 0 where
@@ -49,8 +49,8 @@ pub record IsFrame (rect : RectParts) (frame : Frame) : Type 0 where
   pub height : frame.height ≡ shown_to rect.j_max (margin_of rect frame.step) frame.step - frame.j
 
 -- how many leaves below the upper edge the coordinate `j` is
-abbrev pub down_to : Frame → ℕ → ℕ
-down_to frame j = sum64 frame.j frame.height - j
+abbrev pub depth_below_top : Frame → ℕ → ℕ
+depth_below_top frame j = sum64 frame.j frame.height - j
 
 -- the square of a cell in the picture: `y` runs downwards
 abbrev pub place_of : Frame → ℕ → GridSquare
@@ -58,8 +58,8 @@ place_of frame cell =
     let side = 2 ^ (30 - level_of cell) in
     let leaf = grid_leaf_at (first_leaf cell) in
     record {
-      x = floor_of leaf.i side - frame.i;
-      y = down_to frame (floor_of leaf.j side + side);
+      x = rounded_down leaf.i side - frame.i;
+      y = depth_below_top frame (rounded_down leaf.j side + side);
       side = side;
     }
 
@@ -71,9 +71,9 @@ abbrev pub middle_y : GridSquare → ℕ
 middle_y place = sum64 place.y (place.side / 2)
 
 -- the width of a line that is about one pixel wide, in leaves
-abbrev pub line_of : Frame → ℕ
-line_of frame = max (frame.width / WIDTH) 1
+abbrev pub line_width_of : Frame → ℕ
+line_width_of frame = max (frame.width / WIDTH) 1
 
 -- the height of the face's part in the picture, in pixels
-abbrev pub tall_of : Frame → ℕ
-tall_of frame = product64 frame.height WIDTH / frame.width
+abbrev pub pixel_height_of : Frame → ℕ
+pixel_height_of frame = product64 frame.height WIDTH / frame.width

@@ -3,7 +3,7 @@ use Rattle.std.specs.Prelude.{◌≡◌, ◌==◌, ℕ, zero, suc, ◌-◌, ◌/
 use Rattle.s2_cellid.specs.Cell.{first_leaf, last_leaf}
 use Rattle.s2_cellid.specs.Token.{token_text}
 use Rattle.s2_cover.specs.Rectangles.{RectParts}
-use Rattle.cell_picture.specs.Frame.{IsFrame, down_to, line_of, middle_x, middle_y, place_of, product64, sum64, tall_of}
+use Rattle.cell_picture.specs.Frame.{IsFrame, depth_below_top, line_width_of, middle_x, middle_y, place_of, product64, sum64, pixel_height_of}
 use Rattle.cell_picture.specs.declared.frame.Frame.{Frame}
 use Rattle.cell_picture.specs.declared.frame.GridSquare.{GridSquare}
 use Rattle.cell_picture.specs.declared.frame.TheConstants.{WIDTH}
@@ -24,9 +24,9 @@ opening_text height =
 -- the start tag of the nested picture of the face, whose coordinates are leaves
 unfoldable pub part_start : Frame → List ℕ
 part_start frame =
-    codes "<svg width=\"" ++ (decimal WIDTH ++ (codes "\" height=\"" ++ (decimal (tall_of frame)
+    codes "<svg width=\"" ++ (decimal WIDTH ++ (codes "\" height=\"" ++ (decimal (pixel_height_of frame)
     ++ (codes "\" viewBox=\"0 0 " ++ (decimal frame.width ++ (codes " " ++ (decimal frame.height
-    ++ (codes "\" stroke-width=\"" ++ (decimal (line_of frame) ++ codes "\">\n")))))))))
+    ++ (codes "\" stroke-width=\"" ++ (decimal (line_width_of frame) ++ codes "\">\n")))))))))
 
 -- the background of the face
 unfoldable pub face_text : Frame → List ℕ
@@ -36,30 +36,30 @@ face_text frame =
 
 -- the text before the grid
 abbrev pub head_text : Frame → RectParts → List ℕ
-head_text frame rect = opening_text (sum64 (tall_of frame) LEGEND_HEIGHT)
+head_text frame rect = opening_text (sum64 (pixel_height_of frame) LEGEND_HEIGHT)
     ++ (title_text rect ++ (STYLE.now ++ (part_start frame ++ face_text frame)))
 
 -- the path of a vertical line at `x`, and of a horizontal line at `y`
-unfoldable pub upright : ℕ → ℕ → List ℕ
-upright x height = codes "M" ++ (decimal x ++ (codes " 0V" ++ decimal height))
+unfoldable pub vertical_line_text : ℕ → ℕ → List ℕ
+vertical_line_text x height = codes "M" ++ (decimal x ++ (codes " 0V" ++ decimal height))
 
 unfoldable pub level : ℕ → ℕ → List ℕ
 level y width = codes "M0 " ++ (decimal y ++ (codes "H" ++ decimal width))
 
 -- the paths of n vertical lines from the left, and of n horizontal lines from below, one each `step` leaves
-unfoldable pub uprights : ℕ → ℕ → ℕ → List ℕ
-uprights step height zero = []
-uprights step height (suc n) = uprights step height n ++ upright (product64 n step) height
+unfoldable pub vertical_lines_text : ℕ → ℕ → ℕ → List ℕ
+vertical_lines_text step height zero = []
+vertical_lines_text step height (suc n) = vertical_lines_text step height n ++ vertical_line_text (product64 n step) height
 
-unfoldable pub levels : ℕ → ℕ → ℕ → ℕ → List ℕ
-levels step width height zero = []
-levels step width height (suc n) = levels step width height n ++ level (height - product64 n step) width
+unfoldable pub horizontal_lines_text : ℕ → ℕ → ℕ → ℕ → List ℕ
+horizontal_lines_text step width height zero = []
+horizontal_lines_text step width height (suc n) = horizontal_lines_text step width height n ++ level (height - product64 n step) width
 
 -- the grid of the face
-abbrev pub squares_text : Frame → List ℕ
-squares_text frame =
-    codes "<path class=\"squares\" d=\"" ++ (uprights frame.step frame.height (frame.width / frame.step)
-    ++ (levels frame.step frame.width frame.height (frame.height / frame.step) ++ codes "\"/>\n"))
+abbrev pub grid_text : Frame → List ℕ
+grid_text frame =
+    codes "<path class=\"squares\" d=\"" ++ (vertical_lines_text frame.step frame.height (frame.width / frame.step)
+    ++ (horizontal_lines_text frame.step frame.width frame.height (frame.height / frame.step) ++ codes "\"/>\n"))
 
 -- the square of a cell, with the cell's token as its title
 unfoldable pub cell_text : GridSquare → ℕ → List ℕ
@@ -74,13 +74,13 @@ cells_text frame [] = []
 cells_text frame (id ∷ ids) = cell_text (place_of frame id) id ++ cells_text frame ids
 
 -- the outline of the rectangle as it was requested
-unfoldable pub asked_text : Frame → RectParts → List ℕ
-asked_text frame rect =
+unfoldable pub requested_rectangle_text : Frame → RectParts → List ℕ
+requested_rectangle_text frame rect =
     codes "<rect class=\"asked\" x=\"" ++ (decimal (rect.i_min - frame.i) ++ (codes "\" y=\""
-    ++ (decimal (down_to frame (sum64 rect.j_max 1)) ++ (codes "\" width=\""
+    ++ (decimal (depth_below_top frame (sum64 rect.j_max 1)) ++ (codes "\" width=\""
     ++ (decimal (sum64 (rect.i_max - rect.i_min) 1) ++ (codes "\" height=\""
     ++ (decimal (sum64 (rect.j_max - rect.j_min) 1) ++ (codes "\" stroke-width=\""
-    ++ (decimal (product64 (line_of frame) 2) ++ codes "\"/>\n")))))))))
+    ++ (decimal (product64 (line_width_of frame) 2) ++ codes "\"/>\n")))))))))
 
 -- the path of a line from the centre of one square to the centre of another
 unfoldable pub line_text : GridSquare → GridSquare → List ℕ
@@ -111,7 +111,7 @@ steps_text frame on (id ∷ ids) = steps_from frame on id ids
 -- the text between the solid path of the curve and the dashed one
 unfoldable pub jumps_start : Frame → List ℕ
 jumps_start frame =
-    codes "\"/>\n<path class=\"jump\" stroke-dasharray=\"" ++ (decimal (product64 (line_of frame) 4)
+    codes "\"/>\n<path class=\"jump\" stroke-dasharray=\"" ++ (decimal (product64 (line_width_of frame) 4)
     ++ codes "\" d=\"")
 
 -- the curve from cell to cell: solid between adjacent cells, dashed between the others
@@ -123,7 +123,7 @@ curve_text frame ids =
 -- the text between the face and the legend
 unfoldable pub legend_start : Frame → List ℕ
 legend_start frame =
-    codes "</svg>\n<g transform=\"translate(0 " ++ (decimal (tall_of frame)
+    codes "</svg>\n<g transform=\"translate(0 " ++ (decimal (pixel_height_of frame)
     ++ codes ")\" stroke-width=\"2\">\n")
 
 -- the text after the curve: the end of the face, and the legend
@@ -133,7 +133,7 @@ tail_text frame = legend_start frame ++ (LEGEND.now ++ codes "</g>\n</svg>\n")
 -- the whole text of a picture
 abbrev pub picture_text : Frame → RectParts → List ℕ → List ℕ
 picture_text frame rect ids =
-    head_text frame rect ++ (squares_text frame ++ (cells_text frame ids ++ (asked_text frame rect
+    head_text frame rect ++ (grid_text frame ++ (cells_text frame ids ++ (requested_rectangle_text frame rect
     ++ (curve_text frame ids ++ tail_text frame))))
 
 -- a text is the picture of a rectangle and of these cells

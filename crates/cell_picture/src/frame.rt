@@ -2,7 +2,7 @@
 
 ghost use Rattle.std.specs.Prelude.{◌≡◌, ◌<◌, ◌-◌, ◌^◌};
 ghost use Rattle.cell_picture.specs.Frame as spec;
-ghost use Rattle.cell_picture.specs.Frame.{IsFrame, IsStep, floor_of, shown_from, shown_to};
+ghost use Rattle.cell_picture.specs.Frame.{IsFrame, IsStep, rounded_down, shown_from, shown_to};
 
 use s2_cellid::CellId;
 use s2_cover::Rect;
@@ -75,14 +75,14 @@ impl Frame {
 
     /// The width of a line that is about one pixel wide, in leaves; at least 1.
     pub(crate) fn line_width(&self) -> u64
-        ensures { result ≡ spec.line_of self.now }
+        ensures { result ≡ spec.line_width_of self.now }
     {
         (self.width / WIDTH).max(1)
     }
 
     /// The height of the face's part in the picture, in pixels. 0 if the frame has no width.
     pub(crate) fn pixel_height(&self) -> u64
-        ensures { result ≡ spec.tall_of self.now }
+        ensures { result ≡ spec.pixel_height_of self.now }
     {
         let high = self.height.saturating_mul(WIDTH);
         high.checked_div(self.width).unwrap_or(0)
@@ -90,7 +90,7 @@ impl Frame {
 
     /// How many leaves below the upper edge the coordinate `j` is.
     pub(crate) fn depth_of(&self, j: u64) -> u64
-        ensures { result ≡ spec.down_to self.now j }
+        ensures { result ≡ spec.depth_below_top self.now j }
     {
         self.j.saturating_add(self.height).saturating_sub(j)
     }
@@ -118,7 +118,7 @@ fn grid_step(length: u64, side: u64) -> u64
 #[tactic(auto, using(crate::proofs::PictureLemmas::floored))]
 fn round_down(number: u64, step: u64) -> u64
     requires { 0 < step }
-    ensures { result ≡ floor_of number step }
+    ensures { result ≡ rounded_down number step }
 {
     number.saturating_sub(number % step)
 }

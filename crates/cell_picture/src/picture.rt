@@ -128,7 +128,7 @@ fn picture_end(alloc: Global, frame: &Frame) -> Result<String, AllocError>
 // The grid of the face: the lines between squares with sides of `frame.step` leaves, as one path.
 fn grid_lines(alloc: Global, frame: &Frame) -> Result<String, AllocError>
     requires { 0 < frame.now.step }
-    ensures { IfOk result (λ text. string_bytes text ≡ spec.squares_text frame.now) }
+    ensures { IfOk result (λ text. string_bytes text ≡ spec.grid_text frame.now) }
 {
     let Frame {
         width,
@@ -146,7 +146,7 @@ fn grid_lines(alloc: Global, frame: &Frame) -> Result<String, AllocError>
 // The vertical lines of a grid that is `width` leaves wide, one each `step` leaves, from left to right.
 fn vertical_lines(alloc: Global, width: u64, height: u64, step: u64) -> Result<String, AllocError>
     requires { 0 < step }
-    ensures { IfOk result (λ text. string_bytes text ≡ spec.uprights step height (width / step)) }
+    ensures { IfOk result (λ text. string_bytes text ≡ spec.vertical_lines_text step height (width / step)) }
 {
     let mut text = String::new(alloc);
     for place in 0..width / step {
@@ -157,9 +157,9 @@ fn vertical_lines(alloc: Global, width: u64, height: u64, step: u64) -> Result<S
 }
 
 // The path of a vertical line at `x`, from the upper edge down to `height`.
-#[tactic(auto, unfolding(crate::specs::Picture::upright))]
+#[tactic(auto, unfolding(crate::specs::Picture::vertical_line_text))]
 fn vertical_line(alloc: Global, x: u64, height: u64) -> Result<String, AllocError>
-    ensures { IfOk result (λ text. string_bytes text ≡ spec.upright x height) }
+    ensures { IfOk result (λ text. string_bytes text ≡ spec.vertical_line_text x height) }
 {
     format!(in alloc; "M{x} 0V{height}")
 }
@@ -167,7 +167,7 @@ fn vertical_line(alloc: Global, x: u64, height: u64) -> Result<String, AllocErro
 // The horizontal lines of a grid that is `height` leaves high, one each `step` leaves, from the bottom up.
 fn horizontal_lines(alloc: Global, width: u64, height: u64, step: u64) -> Result<String, AllocError>
     requires { 0 < step }
-    ensures { IfOk result (λ text. string_bytes text ≡ spec.levels step width height (height / step)) }
+    ensures { IfOk result (λ text. string_bytes text ≡ spec.horizontal_lines_text step width height (height / step)) }
 {
     let mut text = String::new(alloc);
     for place in 0..height / step {
@@ -210,9 +210,9 @@ fn cell_square(alloc: Global, frame: &Frame, cell: &CellId) -> Result<String, Al
 }
 
 // The outline of the rectangle as it was requested, not widened to whole squares of its level.
-#[tactic(auto, unfolding(crate::specs::Picture::asked_text))]
+#[tactic(auto, unfolding(crate::specs::Picture::requested_rectangle_text))]
 fn requested_rectangle(alloc: Global, frame: &Frame, rect: &Rect) -> Result<String, AllocError>
-    ensures { IfOk result (λ text. string_bytes text ≡ spec.asked_text frame.now rect.now) }
+    ensures { IfOk result (λ text. string_bytes text ≡ spec.requested_rectangle_text frame.now rect.now) }
 {
     let x = u64::from(rect.i_min()).saturating_sub(frame.i);
     let y = frame.depth_of(u64::from(rect.j_max()).saturating_add(1));

@@ -20,7 +20,7 @@ use Rattle.sqlite_wal.proofs.OutcomeLemmas.{HasCause-weaker}
 use Rattle.sqlite_pager.specs.Pager.{IsAtLimit, IsClean, RefusesCommit, RefusesPage, RefusesWrite, files, image, state, visible}
 use Rattle.sqlite_pager.specs.declared.pager.Pager.{Pager}
 use Rattle.sqlite_pager.proofs.PagerLemmas.{settled}
-use Rattle.db_file.specs.Committing.{AreAsOpened, IsInOrder, IsLeft, IsOver, IsUncommitted, IsUnread, LeavesInOrder, LeavesOrdered, MayOrder, NamesSize, OrdersFirst, RefusesFiles, RefusesFirst, faults_of, image_of, in_order, leaves}
+use Rattle.db_file.specs.Committing.{AreAsOpened, IsInOrder, IsLeft, IsFreshPager, IsUncommitted, IsUnread, LeavesInOrder, LeavesOrdered, MayOrder, NamesSize, OrdersFirst, RefusesFiles, RefusesFirst, faults_of, image_of, in_order, leaves}
 use Rattle.db_file.specs.declared.committing.Left.{Left}
 use Rattle.db_file.specs.declared.committing.Left.TheVariants as kind
 
@@ -205,7 +205,7 @@ module _ {D : Type 0} {g : Ghosts D} (old read : Files D) (log : OnlyReads g old
     (db : OnlyReads g old.db read.db)
   where
     pub over_read : (it : Pager D g) → files it ≡ (read.log, read.db) → faults_of g read ≡ faults_of g old
-        → (AreClean g read.log read.db → NamesSize (image_of g old) (state it).page_size) → IsOver old it
+        → (AreClean g read.log read.db → NamesSize (image_of g old) (state it).page_size) → IsFreshPager old it
     over_read it is faults sized = record {
       usable = subst (λ (p : D × D). IsTrue (g.is_usable p.0) × IsTrue (g.is_usable p.1)) (sym is)
           (log.usable, db.usable);
@@ -251,7 +251,7 @@ Left_or size was old left = ((before : Image) × old before × RecoversAs size b
 
 -- what is left of files whose pages were recovered
 pub uncommitted : {D : Type 0} {g : Ghosts D} (old : Files D) (over it : Pager D g) (size : ℕ) (e : Error)
-    → IsOver old over → (state over).page_size ≡ size → (state it).page_size ≡ size
+    → IsFreshPager old over → (state over).page_size ≡ size → (state it).page_size ≡ size
     → (IsTrue (state it).is_clean → IsTrue (state over).is_clean)
     → (IsTrue (state it).is_clean
     → HasCause (state over).faults (state it).faults (RefusesFiles size (image over) it) e)

@@ -10,8 +10,8 @@ use Rattle.sqlite_wal.specs.Recovery.{frame_at, header}
 use Rattle.sqlite_wal.proofs.PartLemmas.{frames_len-zero}
 use Rattle.db_file.specs.declared.judging.WalState.{WalState}
 use Rattle.db_file.specs.declared.judging.WalState.TheVariants.{Damaged, Sound}
-use Rattle.db_file.specs.Damage.{IsDamaged, IsDamagedAt, IsVerdict, ends_in}
-use Rattle.db_file.specs.Walks.{IsAllTaken, IsBefore, IsStop, IsVerdictAt, LosesCommits}
+use Rattle.db_file.specs.Damage.{IsDamaged, IsDamagedAt, IsStateOf, ends_in}
+use Rattle.db_file.specs.Walks.{IsAllTaken, IsBefore, IsStop, IsStopState, LosesCommits}
 use Rattle.db_file.proofs.DamageLemmas.{first_whole, is_at_stop, one_run, whole_before}
 
 -- the header and what follows it
@@ -27,18 +27,18 @@ first_of page head rest len =
 -- what is said of the bytes behind the header is said of all
 pub reported_of_all : {E : Type 0} (page : ℕ) (head : List ℕ) (old new : Option (List ℕ)) (r : Result WalState E)
     → length head ≡ 32 → Consumes old new head
-    → ((bytes : List ℕ) → header bytes ≡ head → IsBefore page bytes 0 new → IfOk r (IsVerdict bytes))
-    → IfOk r (λ verdict. IfSome old (λ bytes. IsVerdict bytes verdict))
+    → ((bytes : List ℕ) → header bytes ≡ head → IsBefore page bytes 0 new → IfOk r (IsStateOf bytes))
+    → IfOk r (λ verdict. IfSome old (λ bytes. IsStateOf bytes verdict))
 reported_of_all page head old new (Err e) len taken reported = tt
 reported_of_all page head None new (Ok verdict) len taken reported = tt
 reported_of_all page head (Some bytes) None (Ok verdict) len taken reported = absurd taken
 reported_of_all page head (Some bytes) (Some rest) (Ok verdict) len taken reported =
-    subst (λ b. IsVerdict b verdict) (sym taken)
+    subst (λ b. IsStateOf b verdict) (sym taken)
     (reported (head ++ rest) (header_of head rest len) (first_of page head rest len))
 
 -- a log with no header of one is sound
 pub no_log : (head : List ℕ) (old new : Option (List ℕ)) → length head ≡ 32 → Consumes old new head
-    → (IsHeader (be32 head 8) head → ¬ IsPageSize (be32 head 8)) → IfSome old (λ bytes. IsVerdict bytes Sound)
+    → (IsHeader (be32 head 8) head → ¬ IsPageSize (be32 head 8)) → IfSome old (λ bytes. IsStateOf bytes Sound)
 no_log head None new len taken none = tt
 no_log head (Some bytes) None len taken none = absurd taken
 no_log head (Some bytes) (Some rest) len taken none =
@@ -48,7 +48,7 @@ no_log head (Some bytes) (Some rest) len taken none =
 
 -- nor is one that ends inside its header
 pub too_short : (old : Option (List ℕ)) (room : List ℕ) → length room ≡ 32
-    → IfSome old (λ bytes. length bytes < length room) → IfSome old (λ bytes. IsVerdict bytes Sound)
+    → IfSome old (λ bytes. length bytes < length room) → IfSome old (λ bytes. IsStateOf bytes Sound)
 too_short None room len short = tt
 too_short (Some bytes) room len short =
     λ stop commits damaged. absurd
@@ -63,7 +63,7 @@ module _ (page : ℕ) (log head : List ℕ) (same : header log ≡ head) (is_hea
   with_page stop commits = subst (λ p. IsDamagedAt p log stop commits) page_is
 
   -- nor is one of which recovery takes each whole frame
-  pub all_taken : IsAllTaken page log → IsVerdict log Sound
+  pub all_taken : IsAllTaken page log → IsStateOf log Sound
   all_taken taken stop commits damaged =
       let whole = first_whole page log stop commits (with_page stop commits damaged) in
       elim (leb_tells (suc stop) taken.0) [
@@ -80,7 +80,7 @@ module _ (page : ℕ) (log head : List ℕ) (same : header log ≡ head) (is_hea
   -- what is said of a log in which recovery stops at frame n
   pub reported_at : {E : Type 0} (n : ℕ) (room : List ℕ) (left : Option (List ℕ)) (r : Result WalState E)
       → IsStop page log n room left
-      → IfOk r (IsVerdictAt page log n) → IfOk r (IsVerdict log)
+      → IfOk r (IsStopState page log n) → IfOk r (IsStateOf log)
   reported_at n room left (Err e) at reported = tt
   reported_at n room left (Ok Sound) at reported =
       λ stop commits damaged.

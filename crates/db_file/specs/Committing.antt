@@ -13,15 +13,15 @@ use Rattle.sqlite_wal.specs.declared.error.Error.{Error}
 use Rattle.sqlite_wal.specs.declared.error.Error.TheVariants.{Corrupt, Full}
 use Rattle.sqlite_pager.specs.Pager.{AreUsable, IsAtLimit, RefusesPage, image as seen_by, state}
 use Rattle.sqlite_pager.specs.declared.pager.Pager.{Pager}
-use Rattle.db_file.specs.Header.{keeps_checksums}
+use Rattle.db_file.specs.Header.{reserves_checksums}
 use Rattle.db_file.specs.Orders.{ordered_page}
-use Rattle.db_file.specs.Sums.{summed}
+use Rattle.db_file.specs.Sums.{with_checksum}
 use Rattle.db_file.specs.declared.committing.Left.{Left}
 use Rattle.db_file.specs.declared.committing.Left.TheVariants as kind
 
 -- a file's first page in canonical order, with its checksum, if pages have checksums
 abbrev pub in_order : List ℕ → List ℕ
-in_order page = if keeps_checksums page then summed (ordered_page page) else ordered_page page
+in_order page = if reserves_checksums page then with_checksum (ordered_page page) else ordered_page page
 
 -- pages before and after: the first page is put in canonical order, and no other page changes
 pub record OrdersFirst (old new : Pages) : Type 0 where
@@ -94,7 +94,7 @@ module _ {D : Type 0} {g : Ghosts D} where
   RefusesFiles size was new e = RefusesToRecover size was e ⊎ OnlyIf Full (IsAtLimit new) e
 
   -- the pager `it` is made for the files `old`, which were only read and are still to be recovered
-  pub record IsOver (old : Files D) (it : Pager D g) : Type 0 where
+  pub record IsFreshPager (old : Files D) (it : Pager D g) : Type 0 where
     pub usable : AreUsable it
     pub same : seen_by it ≡ image_of g old
     pub faults : (state it).faults ≡ faults_of g old

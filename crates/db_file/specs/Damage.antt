@@ -63,6 +63,6 @@ least_damaged = 1_104
 
 -- the state of a log: it is sound if it is damaged at no frame; else the frame, and the number of lost
 -- commits
-abbrev pub IsVerdict : List ℕ → WalState → Type 0
-IsVerdict log Sound = (stop commits : ℕ) → ¬ IsDamaged log stop commits
-IsVerdict log (Damaged stop commits) = IsDamaged log stop commits
+abbrev pub IsStateOf : List ℕ → WalState → Type 0
+IsStateOf log Sound = (stop commits : ℕ) → ¬ IsDamaged log stop commits
+IsStateOf log (Damaged stop commits) = IsDamaged log stop commits

@@ -5,7 +5,7 @@ use Rattle.std.specs.Prelude.{ℕ, zero, suc, ◌+◌, ◌-◌, ◌*◌, ◌/◌
 use Rattle.std.specs.Str.{bytes_eq}
 use Rattle.sqlite_wal.specs.PageSize.{size_in_file}
 use Rattle.db_file.specs.Header.{byte}
-use Rattle.db_file.specs.Sums.{summed_file}
+use Rattle.db_file.specs.Sums.{checksummed_file}
 
 -- the names of the schema's tables and indexes, in its own order
 abbrev pub own_names : List (List ℕ)
@@ -167,7 +167,7 @@ ordered_file size bytes = ordered_page (take size bytes) ++ drop size bytes
 
 -- a file with the right checksum of each page, if its pages have checksums (true); else as it is
 abbrev pub with_sums : Bool → ℕ → List ℕ → List ℕ
-with_sums sums size bytes = if sums then summed_file size bytes else bytes
+with_sums sums size bytes = if sums then checksummed_file size bytes else bytes
 
 -- a file that is repaired: its first page is put in canonical order, then the checksums are set
 abbrev pub mended : Bool → ℕ → List ℕ → List ℕ

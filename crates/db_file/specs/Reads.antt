@@ -22,10 +22,10 @@ most_reads = 2 ^ 32 - 1
 
 -- reading was given up: the last read failed; or there were as many reads as there may be, and the last
 -- passed
-abbrev pub HaveBrokenOff : Reads → Type 0
-HaveBrokenOff reads = (reads.last ≡ Failed) ⊎ ((reads.last ≡ Passed) × (reads.count ≡ most_reads))
+abbrev pub HaveGivenUp : Reads → Type 0
+HaveGivenUp reads = (reads.last ≡ Failed) ⊎ ((reads.last ≡ Passed) × (reads.count ≡ most_reads))
 
 -- why a log was not checked to its end: reading was given up; or the log has 2 ^ 64 bytes or more
-abbrev pub IsUnjudged : Option (List ℕ) → WalError → Type 0
-IsUnjudged log (Unread reads) = HaveBrokenOff reads
-IsUnjudged log Endless = IfSome log (λ bytes. 2 ^ 64 ≤ length bytes)
+abbrev pub IsUnchecked : Option (List ℕ) → WalError → Type 0
+IsUnchecked log (Unread reads) = HaveGivenUp reads
+IsUnchecked log Endless = IfSome log (λ bytes. 2 ^ 64 ≤ length bytes)

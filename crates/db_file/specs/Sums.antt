@@ -20,29 +20,29 @@ abbrev pub has_sum : List ℕ → Bool
 has_sum page = bytes_eq (sum_in page) (sum_of (before_sum page))
 
 -- 1 if a page ends with a wrong checksum, else 0
-abbrev pub unsummed_page : List ℕ → ℕ
-unsummed_page page = if has_sum page then 0 else 1
+abbrev pub bad_checksums_in_page : List ℕ → ℕ
+bad_checksums_in_page page = if has_sum page then 0 else 1
 
 -- the page, with its last eight bytes replaced by the checksum of the others
-abbrev pub summed : List ℕ → List ℕ
-summed page = before_sum page ++ sum_of (before_sum page)
+abbrev pub with_checksum : List ℕ → List ℕ
+with_checksum page = before_sum page ++ sum_of (before_sum page)
 
 -- the first pages of a file, each with the right checksum: by the page size, and how many pages
-unfoldable pub summed_pages : ℕ → ℕ → List ℕ → List ℕ
-summed_pages size zero bytes = []
-summed_pages size (suc n) bytes =
-    summed (take size bytes) ++ summed_pages size n (drop size bytes)
+unfoldable pub checksummed_pages : ℕ → ℕ → List ℕ → List ℕ
+checksummed_pages size zero bytes = []
+checksummed_pages size (suc n) bytes =
+    with_checksum (take size bytes) ++ checksummed_pages size n (drop size bytes)
 
 -- how many of the first pages of a file end with a wrong checksum: by the page size, and how many pages
-unfoldable pub unsummed_pages : ℕ → ℕ → List ℕ → ℕ
-unsummed_pages size zero bytes = 0
-unsummed_pages size (suc n) bytes =
-    unsummed_page (take size bytes) + unsummed_pages size n (drop size bytes)
+unfoldable pub bad_checksums_in_pages : ℕ → ℕ → List ℕ → ℕ
+bad_checksums_in_pages size zero bytes = 0
+bad_checksums_in_pages size (suc n) bytes =
+    bad_checksums_in_page (take size bytes) + bad_checksums_in_pages size n (drop size bytes)
 
 -- how many of all whole pages of a file end with a wrong checksum
-abbrev pub unsummed_in : ℕ → List ℕ → ℕ
-unsummed_in size bytes = unsummed_pages size (length bytes / size) bytes
+abbrev pub bad_checksums_in : ℕ → List ℕ → ℕ
+bad_checksums_in size bytes = bad_checksums_in_pages size (length bytes / size) bytes
 
 -- all whole pages of a file, each with the right checksum
-abbrev pub summed_file : ℕ → List ℕ → List ℕ
-summed_file size bytes = summed_pages size (length bytes / size) bytes
+abbrev pub checksummed_file : ℕ → List ℕ → List ℕ
+checksummed_file size bytes = checksummed_pages size (length bytes / size) bytes

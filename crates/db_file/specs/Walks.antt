@@ -49,9 +49,9 @@ pub record LosesCommits (page : ℕ) (log : List ℕ) (n commits : ℕ) : Type 0
   pub lost : commits ≡ ends_in page log n frames
 
 -- the state of a log in which recovery stops at frame n: sound if fewer than two commits are lost
-abbrev pub IsVerdictAt : ℕ → List ℕ → ℕ → WalState → Type 0
-IsVerdictAt page log n Sound = (commits : ℕ) × LosesCommits page log n commits × (commits < 2)
-IsVerdictAt page log n (Damaged stop commits) = (stop ≡ n) × LosesCommits page log n commits × (2 ≤ commits)
+abbrev pub IsStopState : ℕ → List ℕ → ℕ → WalState → Type 0
+IsStopState page log n Sound = (commits : ℕ) × LosesCommits page log n commits × (commits < 2)
+IsStopState page log n (Damaged stop commits) = (stop ≡ n) × LosesCommits page log n commits × (2 ≤ commits)
 
 -- at least `count` bytes were read: what was still to be read before and after, and the count
 abbrev pub HasRead : Option (List ℕ) → Option (List ℕ) → ℕ → Type 0

@@ -8,12 +8,12 @@ ghost use Rattle.sqlite_wal.specs.PageSize.{bytes_of};
 ghost use Rattle.sqlite_wal.specs.Recovery.{Image, IsUnreadable};
 ghost use Rattle.sqlite_wal.specs.State.{IsSettled, StaysOrFails};
 ghost use Rattle.db_file.specs.Committing as spec;
-ghost use Rattle.db_file.specs.Committing.{AreAsOpened, IsInOrder, IsLeft, IsOver, LeavesOrdered, MayOrder, NamesSize};
+ghost use Rattle.db_file.specs.Committing.{AreAsOpened, IsInOrder, IsLeft, IsFreshPager, LeavesOrdered, MayOrder, NamesSize};
 ghost use Rattle.db_file.specs.Committing.{OrdersFirst, RefusesFiles, RefusesFirst};
 ghost use Rattle.db_file.specs.Committing.{faults_of, image_of, leaves};
 ghost use Rattle.db_file.specs.Orders.{IsFirstPage};
 
-use crate::db_header::{MAX_PAGE, keeps_checksums};
+use crate::db_header::{MAX_PAGE, reserves_checksums};
 use crate::orders::order_page;
 use crate::sums::set_checksum;
 use sqlite_disk::{Disk, Files, Start};
@@ -119,7 +119,7 @@ fn open_pager<D: Disk + Drop>(
 ) -> Result<(Pager<D>, PageSize), Left<D>>
     requires log { IsTrue (D.Disk.is_usable files.log) }
     requires db { IsTrue (D.Disk.is_usable files.db) }
-    ensures fresh { IfOk result (λ it. IsOver files it.0) }
+    ensures fresh { IfOk result (λ it. IsFreshPager files it.0) }
     ensures size { IfOk result (λ it. (state it.0).page_size ≡ bytes_of it.1) }
     ensures left { IfErr result (IsLeft (image_of D.Disk files) (leaves D.Disk files)
         (faults_of D.Disk files)) }
@@ -184,7 +184,7 @@ fn reorder_checksummed(page: &mut [u8])
     requires { IsFirstPage page.old }
     ensures { page.new ≡ spec.in_order page.old }
 {
-    let has_sum = keeps_checksums(page);
+    let has_sum = reserves_checksums(page);
     order_page(page);
     if has_sum {
         set_checksum(page);

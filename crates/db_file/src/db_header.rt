@@ -33,8 +33,8 @@ pub fn byte(bytes: &[u8], at: usize) -> u8
 
 /// Whether the header of a database reserves eight bytes at the end of each page. Its pages are then taken to
 /// have checksums.
-pub fn keeps_checksums(header: &[u8]) -> bool
-    ensures { result ≡ spec.keeps_checksums header.now }
+pub fn reserves_checksums(header: &[u8]) -> bool
+    ensures { result ≡ spec.reserves_checksums header.now }
 {
     usize::from(byte(header, RESERVED_AT)) == SUM
 }

@@ -5,7 +5,7 @@ ghost use Rattle.std.specs.Prelude.{◌≡◌, ◌↔◌, ◌≤◌, if◌then�
 ghost use Rattle.sqlite_wal.specs.Format.{IsFrame};
 ghost use Rattle.db_file.specs.Damage as spec;
 
-use crate::numbers::{Sum, number_at, sum_at};
+use crate::numbers::{Checksum, checksum_at, number_at};
 use sqlite_wal::checksum_of;
 
 /// How many bytes of a frame come before its page.
@@ -13,7 +13,7 @@ pub const FRAME_HEADER: usize = 24;
 
 /// Whether recovery accepts `frame`: it has the salts of the header `head`, names a page, and has the right
 /// checksum. This continues `before`, the checksum of the frame before (or of the header).
-pub fn is_frame_valid(head: &[u8; 32], before: Sum, frame: &[u8]) -> bool
+pub fn is_frame_valid(head: &[u8; 32], before: Checksum, frame: &[u8]) -> bool
     requires { 24 ≤ length frame.now }
     ensures { IsTrue result ↔ IsFrame head.now before frame.now }
 {
@@ -22,7 +22,7 @@ pub fn is_frame_valid(head: &[u8; 32], before: Sum, frame: &[u8]) -> bool
     }
     let big = head[3] == 0x83;
     let front = checksum_of(big, before, &frame[..8]);
-    checksum_of(big, front, &frame[24..]) == sum_at(frame, 16)
+    checksum_of(big, front, &frame[24..]) == checksum_at(frame, 16)
 }
 
 /// Whether `frame` has the salts of the header `head`. If not, it is left from before the WAL was last reset.

@@ -5,12 +5,12 @@ ghost use Rattle.std.specs.Prelude.{◌≡◌, true, ◌<◌, ◌≤◌, ◌+◌
 ghost use Rattle.sqlite_wal.specs.Format.{IsHeader};
 ghost use Rattle.sqlite_wal.specs.PageSize.{IsPageSize};
 ghost use Rattle.sqlite_wal.specs.Recovery.{header};
-ghost use Rattle.db_file.specs.Damage.{IsVerdict};
-ghost use Rattle.db_file.specs.Reads.{HaveBrokenOff, IsUnjudged};
-ghost use Rattle.db_file.specs.Walks.{HasFrame, HasRead, IsBefore, IsNext, IsVerdictAt, LosesCommits, StopsAt};
+ghost use Rattle.db_file.specs.Damage.{IsStateOf};
+ghost use Rattle.db_file.specs.Reads.{HaveGivenUp, IsUnchecked};
+ghost use Rattle.db_file.specs.Walks.{HasFrame, HasRead, IsBefore, IsNext, IsStopState, LosesCommits, StopsAt};
 
 use crate::frames::{FRAME_HEADER, commits_ended, has_salts, is_frame_valid};
-use crate::numbers::sum_at;
+use crate::numbers::checksum_at;
 use crate::reading::read_whole;
 use crate::reads::Reads;
 use crate::wal_header::{HEADER, page_size_in};
@@ -56,8 +56,8 @@ impl From<Reads> for WalError {
 /// `Unread` if a read failed, or 2^32 - 1 reads brought no whole frame; `Endless` if there are 2^64 bytes or
 /// more.
 pub fn check_wal<R: Read>(log: &mut R) -> Result<WalState, WalError>
-    ensures value { IfOk result (λ verdict. IfSome (R.remaining log.old) (λ bytes. IsVerdict bytes verdict)) }
-    ensures fault { IfErr result (IsUnjudged (R.remaining log.old)) }
+    ensures value { IfOk result (λ verdict. IfSome (R.remaining log.old) (λ bytes. IsStateOf bytes verdict)) }
+    ensures fault { IfErr result (IsUnchecked (R.remaining log.old)) }
 {
     let mut room = [0u8; MAX_FRAME];
     check_with_buffer(log, &mut room)
@@ -67,8 +67,8 @@ pub fn check_wal<R: Read>(log: &mut R) -> Result<WalState, WalError>
 // nothing of it.
 fn check_with_buffer<R: Read>(log: &mut R, room: &mut [u8]) -> Result<WalState, WalError>
     requires { length room.old ≡ 65560 }
-    ensures value { IfOk result (λ verdict. IfSome (R.remaining log.old) (λ bytes. IsVerdict bytes verdict)) }
-    ensures fault { IfErr result (IsUnjudged (R.remaining log.old)) }
+    ensures value { IfOk result (λ verdict. IfSome (R.remaining log.old) (λ bytes. IsStateOf bytes verdict)) }
+    ensures fault { IfErr result (IsUnchecked (R.remaining log.old)) }
 {
     let mut head = [0u8; HEADER];
     if !read_whole(log, &mut head)? {
@@ -90,8 +90,8 @@ fn check_frames<R: Read>(
     requires { 24 ≤ length frame.old }
     ensures value { (page : ℕ) (bytes : List ℕ) → length frame.old ≡ 24 + page → header bytes ≡ head.now
         → IsHeader page head.now → IsPageSize page → IsBefore page bytes 0 (R.remaining log.old)
-        → IfOk result (IsVerdict bytes) }
-    ensures fault { IfErr result (IsUnjudged (R.remaining log.old)) }
+        → IfOk result (IsStateOf bytes) }
+    ensures fault { IfErr result (IsUnchecked (R.remaining log.old)) }
 {
     match find_stop(log, head, frame)? {
         Some(stop) => state_at_stop(log, head, frame, stop),
@@ -111,8 +111,8 @@ fn state_at_stop<R: Read>(
     requires { 24 ≤ length frame.old }
     ensures value { (page : ℕ) (bytes : List ℕ) → length frame.old ≡ 24 + page → header bytes ≡ head.now
         → HasFrame page bytes stop frame.old (R.remaining log.old)
-        → IfOk result (IsVerdictAt page bytes stop) }
-    ensures fault { IfErr result (IsUnjudged (R.remaining log.old)) }
+        → IfOk result (IsStopState page bytes stop) }
+    ensures fault { IfErr result (IsUnchecked (R.remaining log.old)) }
 {
     let commits = count_commits(log, head, frame)?;
     if commits < 2 {
@@ -137,9 +137,9 @@ fn find_stop<R: Read>(
         → IfOk result (StopsAt page bytes frame.new (R.remaining log.new)) }
     ensures left { IfOk result (λ stop. IfSome stop (λ _.
         HasRead (R.remaining log.old) (R.remaining log.new) 0)) }
-    ensures fault { IfErr result (IsUnjudged (R.remaining log.old)) }
+    ensures fault { IfErr result (IsUnchecked (R.remaining log.old)) }
 {
-    let mut sum = sum_at(head, 24);
+    let mut sum = checksum_at(head, 24);
     for stop in 0..u64::MAX {
         if !next_frame(log, frame)? {
             return Ok(None);
@@ -147,7 +147,7 @@ fn find_stop<R: Read>(
         if !is_frame_valid(head, sum, frame) {
             return Ok(Some(stop));
         }
-        sum = sum_at(frame, 16);
+        sum = checksum_at(frame, 16);
     }
     Err(WalError::Endless)
 }
@@ -163,7 +163,7 @@ fn count_commits<R: Read>(
     ensures value { (page stop : ℕ) (bytes : List ℕ) → length frame.old ≡ 24 + page → header bytes ≡ head.now
         → HasFrame page bytes stop frame.old (R.remaining log.old)
         → IfOk result (LosesCommits page bytes stop) }
-    ensures fault { IfErr result (IsUnjudged (R.remaining log.old)) }
+    ensures fault { IfErr result (IsUnchecked (R.remaining log.old)) }
 {
     let mut commits = 0;
     for _ in 0..u64::MAX {
@@ -185,7 +185,7 @@ fn next_frame<R: Read>(log: &mut R, frame: &mut [u8]) -> Result<bool, Reads>
         → IfOk result (IsNext page bytes n frame.new (R.remaining log.new)) }
     ensures read { IfOk result (λ is_whole. is_whole ≡ true →
         Consumes (R.remaining log.old) (R.remaining log.new) frame.new) }
-    ensures fault { IfErr result HaveBrokenOff }
+    ensures fault { IfErr result HaveGivenUp }
 {
     read_whole(log, frame)
 }

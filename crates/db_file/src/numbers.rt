@@ -4,7 +4,7 @@ ghost use Rattle.std.specs.Prelude.{◌≡◌, ◌+◌, ◌≤◌, length};
 ghost use Rattle.sqlite_wal.specs.Format.{be32, stored_sum};
 
 /// SQLite's checksum of a WAL: two numbers of 32 bits.
-pub type Sum = (u32, u32);
+pub type Checksum = (u32, u32);
 
 /// The big-endian number in the four bytes from `at` on.
 #[tactic(auto, unfolding(sqlite_wal::specs::Format::be32))]
@@ -19,7 +19,7 @@ pub fn number_at(bytes: &[u8], at: usize) -> u32
 }
 
 /// The checksum that is stored in the eight bytes from `at` on.
-pub fn sum_at(bytes: &[u8], at: usize) -> Sum
+pub fn checksum_at(bytes: &[u8], at: usize) -> Checksum
     requires { at + 8 ≤ length bytes.now }
     ensures { result ≡ stored_sum bytes.now at }
 {

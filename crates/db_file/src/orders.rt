@@ -8,11 +8,11 @@ ghost use Rattle.std.specs.Prelude.{None, OnOk, Some, false, true};
 ghost use Rattle.std.specs.Fmt.{option_append};
 ghost use Rattle.std.specs.Io.KnownBytes.{Appends};
 ghost use Rattle.sqlite_wal.specs.PageSize.{IsPageSize, bytes_of, size_in_file};
-ghost use Rattle.db_file.specs.Header.{keeps_checksums as has_checksums};
+ghost use Rattle.db_file.specs.Header.{reserves_checksums as has_checksums};
 ghost use Rattle.db_file.specs.Orders as spec;
 ghost use Rattle.db_file.specs.Orders.{IsFirstPage};
 
-use crate::db_header::{HEADER, MAX_PAGE, byte, keeps_checksums, page_size_in};
+use crate::db_header::{HEADER, MAX_PAGE, byte, reserves_checksums, page_size_in};
 use crate::sums::{copy_bytes, copy_checksummed, open_regular};
 use sqlite_wal::PageSize;
 use std::fs::File;
@@ -22,7 +22,7 @@ use std::io::{self, ErrorKind, Read, Write};
 const LEAF: u8 = 13;
 
 // How many tables and indexes the schema has.
-const ALL: u16 = 14;
+const SCHEMA_ENTRIES: u16 = 14;
 
 /// The message about a file whose tables and indexes are in an order that the desk doesn't read.
 pub fn order_text() -> &'static str
@@ -255,13 +255,13 @@ fn is_in_other_order(page: &[u8]) -> bool
     if byte(page, 100) != LEAF {
         return false;
     }
-    if count_of(page) > ALL {
+    if count_of(page) > SCHEMA_ENTRIES {
         return false;
     }
     if are_listed(false, page) {
         return false;
     }
-    !(count_of(page) == ALL && are_listed(true, page))
+    !(count_of(page) == SCHEMA_ENTRIES && are_listed(true, page))
 }
 
 // Points the slot `to` of `page` to the cell of the slot `from` of `old`, whose row gets the rowid
@@ -473,7 +473,7 @@ fn copy_by_header<R: Read, W: Write>(file: &mut R, output: &mut W, len: u64) -> 
     match page_size_in(&header) {
         Some(size) => {
             let mut whole = (&header[..]).chain(file);
-            copy_in_order(&mut whole, output, size, len, keeps_checksums(&header))
+            copy_in_order(&mut whole, output, size, len, reserves_checksums(&header))
         }
         None => Err(io::Error::from(ErrorKind::Unsupported)),
     }

@@ -2,7 +2,7 @@
 
 ghost use Rattle.std.specs.Prelude.{◌≡◌, ◌<◌, ◌≤◌, false, true, length, take, IfErr, IfOk, IfSome};
 ghost use Rattle.std.specs.Io.KnownBytes.{Consumes, IsAtEnd};
-ghost use Rattle.db_file.specs.Reads.{HaveBrokenOff};
+ghost use Rattle.db_file.specs.Reads.{HaveGivenUp};
 
 use crate::reads::{Reads, read_counted};
 use std::io::Read;
@@ -21,7 +21,7 @@ pub fn read_whole<R: Read>(input: &mut R, room: &mut [u8]) -> Result<bool, Reads
         Consumes (R.remaining input.old) (R.remaining input.new) room.new) }
     ensures short { IfOk result (λ is_whole. is_whole ≡ false →
         IfSome (R.remaining input.old) (λ rest. length rest < length room.new)) }
-    ensures fault { IfErr result HaveBrokenOff }
+    ensures fault { IfErr result HaveGivenUp }
 {
     let count = fill(input, room)?;
     Ok(count == room.len())
@@ -34,7 +34,7 @@ fn fill<R: Read>(input: &mut R, room: &mut [u8]) -> Result<usize, Reads>
     ensures taken { IfOk result (λ count.
         Consumes (R.remaining input.old) (R.remaining input.new) (take count room.new)) }
     ensures end { IfOk result (λ count. count < length room.new → IsAtEnd (R.remaining input.new)) }
-    ensures fault { IfErr result HaveBrokenOff }
+    ensures fault { IfErr result HaveGivenUp }
 {
     let mut count = 0;
     let mut reads = Reads::none();

@@ -8,10 +8,10 @@ ghost use Rattle.std.specs.Io.KnownBytes.{Appends};
 ghost use Rattle.std.specs.IoError.{error_kind};
 ghost use Rattle.std.specs.declared.io.ErrorKind.TheVariants.{Unsupported};
 ghost use Rattle.sqlite_wal.specs.PageSize.{IsPageSize, bytes_of, size_in_file};
-ghost use Rattle.db_file.specs.Header.{keeps_checksums};
+ghost use Rattle.db_file.specs.Header.{reserves_checksums};
 ghost use Rattle.db_file.specs.Sums as spec;
 
-use crate::db_header::{HEADER, MAX_PAGE, SUM, keeps_checksums, page_size_in};
+use crate::db_header::{HEADER, MAX_PAGE, SUM, page_size_in, reserves_checksums};
 use sqlite_wal::{PageSize, checksum_of};
 use std::fs::{self, File, Metadata};
 use std::io::{self, ErrorKind, Read, Write};
@@ -39,7 +39,7 @@ fn count_bad_if_opened<R: Read + Drop>(
 ) -> Option<u64>
     ensures unread { IsErr opened → result ≡ None }
     ensures counted { IfSome result (λ bad_count. IfOk opened (λ file. IfSome (R.remaining file) (λ bytes.
-        length bytes ≡ len → bad_count ≡ spec.unsummed_in (bytes_of size) bytes))) }
+        length bytes ≡ len → bad_count ≡ spec.bad_checksums_in (bytes_of size) bytes))) }
 {
     match opened {
         Ok(mut file) => count_bad_pages(&mut file, size, len).ok(),
@@ -52,7 +52,7 @@ fn count_bad_if_opened<R: Read + Drop>(
 fn checksummed_size<R: Read + Drop>(opened: io::Result<R>) -> Option<PageSize>
     ensures unread { IsErr opened → result ≡ None }
     ensures sized { IfSome result (λ size. IfOk opened (λ file. IfSome (R.remaining file) (λ bytes.
-        (keeps_checksums bytes ≡ true) × (bytes_of size ≡ size_in_file bytes)))) }
+        (reserves_checksums bytes ≡ true) × (bytes_of size ≡ size_in_file bytes)))) }
 {
     match opened {
         Ok(mut file) => read_checksummed_size(&mut file).ok()?,
@@ -63,9 +63,9 @@ fn checksummed_size<R: Read + Drop>(opened: io::Result<R>) -> Option<PageSize>
 // Reads the header of a database; returns its page size, if that is valid and the pages have checksums.
 fn read_checksummed_size<R: Read>(file: &mut R) -> io::Result<Option<PageSize>>
     ensures some { IfOk result (λ found. IfSome found (λ size. IfSome (R.remaining file.old) (λ bytes.
-        (keeps_checksums bytes ≡ true) × (bytes_of size ≡ size_in_file bytes)))) }
+        (reserves_checksums bytes ≡ true) × (bytes_of size ≡ size_in_file bytes)))) }
     ensures none { IfOk result (λ found. IfNone found (IfSome (R.remaining file.old) (λ bytes.
-        keeps_checksums bytes ≡ true → ¬ IsPageSize (size_in_file bytes)))) }
+        reserves_checksums bytes ≡ true → ¬ IsPageSize (size_in_file bytes)))) }
 {
     let mut header = [0u8; HEADER];
     file.read_exact(&mut header)?;
@@ -75,11 +75,11 @@ fn read_checksummed_size<R: Read>(file: &mut R) -> io::Result<Option<PageSize>>
 // The page size that the header of a database names, if that is valid and the pages have checksums.
 fn checksummed_size_in(header: &[u8; HEADER]) -> Option<PageSize>
     ensures some { IfSome result (λ size.
-        (keeps_checksums header.now ≡ true) × (bytes_of size ≡ size_in_file header.now)) }
-    ensures none { result ≡ None → keeps_checksums header.now ≡ true
+        (reserves_checksums header.now ≡ true) × (bytes_of size ≡ size_in_file header.now)) }
+    ensures none { result ≡ None → reserves_checksums header.now ≡ true
         → ¬ IsPageSize (size_in_file header.now) }
 {
-    if !keeps_checksums(header) {
+    if !reserves_checksums(header) {
         return None;
     }
     page_size_in(header)
@@ -121,7 +121,7 @@ pub fn copy_checksummed<R: Read, W: Write>(
 ) -> io::Result<()>
     ensures { OnOk result (IfSome (R.remaining file.old) (λ bytes. length bytes ≡ len →
         Appends (W.contents output.old) (W.contents output.new)
-        (spec.summed_file (bytes_of size) bytes))) }
+        (spec.checksummed_file (bytes_of size) bytes))) }
 {
     copy_pages(file, output, size, len / size.bytes() as u64)
 }
@@ -135,7 +135,7 @@ fn copy_pages<R: Read, W: Write>(
 ) -> io::Result<()>
     ensures { OnOk result (IfSome (R.remaining file.old) (λ bytes.
         Appends (W.contents output.old) (W.contents output.new)
-        (spec.summed_pages (bytes_of size) count bytes))) }
+        (spec.checksummed_pages (bytes_of size) count bytes))) }
 {
     let mut room = [0u8; MAX_PAGE];
     let page = &mut room[..size.bytes()];
@@ -153,7 +153,7 @@ fn copy_page<R: Read, W: Write>(file: &mut R, output: &mut W, page: &mut [u8]) -
         R.remaining file.new ≡ Some (drop (length page.old) bytes))) }
     ensures copied { OnOk result (IfSome (R.remaining file.old) (λ bytes.
         Appends (W.contents output.old) (W.contents output.new)
-        (spec.summed (take (length page.old) bytes)))) }
+        (spec.with_checksum (take (length page.old) bytes)))) }
 {
     file.read_exact(page)?;
     set_checksum(page);
@@ -167,7 +167,7 @@ fn copy_page<R: Read, W: Write>(file: &mut R, output: &mut W, page: &mut [u8]) -
 /// The error of the read that failed.
 pub fn count_bad_pages<R: Read>(file: &mut R, size: PageSize, len: u64) -> io::Result<u64>
     ensures { IfOk result (λ bad_count. IfSome (R.remaining file.old) (λ bytes. length bytes ≡ len →
-        bad_count ≡ spec.unsummed_in (bytes_of size) bytes)) }
+        bad_count ≡ spec.bad_checksums_in (bytes_of size) bytes)) }
 {
     count_bad_in(file, size, len / size.bytes() as u64)
 }
@@ -175,7 +175,7 @@ pub fn count_bad_pages<R: Read>(file: &mut R, size: PageSize, len: u64) -> io::R
 // How many of the next `count` pages, of `size` bytes each, have a wrong checksum.
 fn count_bad_in<R: Read>(file: &mut R, size: PageSize, count: u64) -> io::Result<u64>
     ensures { IfOk result (λ bad_count. IfSome (R.remaining file.old) (λ bytes.
-        bad_count ≡ spec.unsummed_pages (bytes_of size) count bytes)) }
+        bad_count ≡ spec.bad_checksums_in_pages (bytes_of size) count bytes)) }
 {
     let mut room = [0u8; MAX_PAGE];
     let page = &mut room[..size.bytes()];
@@ -194,7 +194,7 @@ fn count_bad_page<R: Read>(file: &mut R, page: &mut [u8]) -> io::Result<u64>
     ensures left { OnOk result (IfSome (R.remaining file.old) (λ bytes.
         R.remaining file.new ≡ Some (drop (length page.old) bytes))) }
     ensures counted { IfOk result (λ bad_count. IfSome (R.remaining file.old) (λ bytes.
-        bad_count ≡ spec.unsummed_page (take (length page.old) bytes))) }
+        bad_count ≡ spec.bad_checksums_in_page (take (length page.old) bytes))) }
 {
     file.read_exact(page)?;
     Ok(if has_own_checksum(page) { 0 } else { 1 })
@@ -212,7 +212,7 @@ fn has_own_checksum(page: &[u8]) -> bool
 /// Sets the checksum of a page, its last eight bytes, to that of the bytes before.
 pub fn set_checksum(page: &mut [u8])
     requires { 8 ≤ length page.old }
-    ensures { page.new ≡ spec.summed page.old }
+    ensures { page.new ≡ spec.with_checksum page.old }
 {
     let (bytes, sum) = page.split_at_mut(page.len() - SUM);
     sum.copy_from_slice(&sum_of(bytes));

@@ -4,7 +4,7 @@ ghost use Rattle.std.specs.Prelude.{◌≡◌, ◌↔◌, None, IfSome, IsTrue};
 ghost use Rattle.sqlite_wal.specs.Format.{IsHeader, IsSigned, be32};
 ghost use Rattle.sqlite_wal.specs.PageSize.{IsPageSize};
 
-use crate::numbers::{number_at, sum_at};
+use crate::numbers::{checksum_at, number_at};
 use sqlite_wal::{PageSize, checksum_of};
 
 /// How many bytes the header of a WAL has.
@@ -41,5 +41,5 @@ fn has_magic_and_checksum(head: &[u8; 32]) -> bool
     if head[3] != 0x82 && head[3] != BIG {
         return false;
     }
-    checksum_of(head[3] == BIG, (0, 0), &head[..24]) == sum_at(head, 24)
+    checksum_of(head[3] == BIG, (0, 0), &head[..24]) == checksum_at(head, 24)
 }

@@ -13,7 +13,7 @@ use Rattle.desk_store.specs.World.{World}
 use Rattle.desk_wire.specs.Passage.{course}
 use Rattle.desk_cli.specs.Exits.{Ending, FailsWith}
 use Rattle.desk_program.specs.declared.looking.CheckedFile.{CheckedFile}
-use Rattle.table_load.specs.HeldContent.{AreHoldingsOf}
+use Rattle.table_load.specs.HeldContent.{AreStatsOf}
 use Rattle.desk_tables.specs.Copying.{IsMadeIn, LooksIn}
 use Rattle.table_load.specs.Leaving.{IsSettledAt}
 use Rattle.desk_tables.specs.Store.{Shown}
@@ -114,8 +114,8 @@ module _ (old mid new : Option (List Step)) (to : List ℕ) (free : Follows (cou
 -- what was read is reported as it was counted
 pub read_as : {D : Type 0} {g : disk.Ghosts D} (image : Image) (left : Held (FileStore D g))
     (file : CheckedFile) (holdings : DbStats) → file.is_old ≡ holdings.is_old
-    → ((w : World) → AreHoldingsOf holdings w → ReportsHoldings file w)
-    → ((w : World) × AreHoldingsOf holdings w × LooksIn image left holdings.is_old w)
+    → ((w : World) → AreStatsOf holdings w → ReportsHoldings file w)
+    → ((w : World) × AreStatsOf holdings w × LooksIn image left holdings.is_old w)
     → IsReadAs image left file
 read_as {g = g} image left file holdings same counted found = record {
   w = found.0;
@@ -126,7 +126,7 @@ read_as {g = g} image left file holdings same counted found = record {
 -- what is known of a copy, apart and together
 pub stored_as : {D E : Type 0} {g : disk.Ghosts D} {k : disk.Ghosts E} (image other : Image)
     (r : Result (Held (FileStore D g) × (Shown (FileStore E k) × DbStats)) (CopyFault D E g k))
-    → IfOk r (λ c. AreHoldingsOf c.1.1 c.1.0.world × LooksIn image c.0 c.1.1.is_old c.1.0.world)
+    → IfOk r (λ c. AreStatsOf c.1.1 c.1.0.world × LooksIn image c.0 c.1.1.is_old c.1.0.world)
     → IfOk r (λ c. IsMadeIn other c.1.0.held)
     → IfOk r (λ c. IsSettledAt over_files c.1.0.held c.1.0.world)
     → IfOk r (IsStoredAs image other)

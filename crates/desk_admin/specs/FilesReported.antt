@@ -19,7 +19,7 @@ use Rattle.desk_program.specs.Looking.{IsTextPrinted, checked_line, copied_line}
 use Rattle.desk_program.specs.declared.looking.CheckedFile.{CheckedFile}
 use Rattle.row_codec.specs.Counting.{HaveSpanRows, IsMostCells, IsMostSpans}
 use Rattle.desk_tables.specs.Closing.{IsLeftUnclosed}
-use Rattle.table_load.specs.HeldContent.{AreHoldingsOf, live_count}
+use Rattle.table_load.specs.HeldContent.{AreStatsOf, live_count}
 use Rattle.desk_tables.specs.Copying.{AreNotCopied, AreNotRead, IsMadeIn, LooksIn}
 use Rattle.desk_tables.specs.declared.closing.CheckpointError.{CheckpointError}
 use Rattle.desk_tables.specs.declared.opening.files.CopyFault.{CopyFault}
@@ -149,7 +149,7 @@ module _ {D E : Type 0} {g : disk.Ghosts D} (k : disk.Ghosts E) (image other : I
   pub record IsCopyMade (copies : Held (FileStore D g) × (Files E × DbStats)) : Type 0 where
     pub w : World
     pub held : Held (FileStore E k)
-    pub counted : AreHoldingsOf copies.1.1 w
+    pub counted : AreStatsOf copies.1.1 w
     pub looks : LooksIn image copies.0 copies.1.1.is_old w
     pub made : IsMadeIn other held
     pub settled : IsSettledAt over_files held w

@@ -18,7 +18,7 @@ use Rattle.desk_host.specs.declared.ways.ReadMode.TheVariants as way
 use Rattle.desk_admin.specs.FilesReported.{FailsToRead, IsReadAs}
 use Rattle.host_files.specs.Reporting.{IsWrittenIfRoom, Reports, line_of}
 use Rattle.host_files.specs.Naming.{Failed, Follows, Ordered, Step, Steps}
-use Rattle.desk_host.specs.Scratch.{AreRemoved, IsUntwinned, making, scratch_of}
+use Rattle.desk_host.specs.Scratch.{AreRemoved, IsNotCopied, make_steps, scratch_of}
 
 -- what is reported once a file was reordered
 abbrev pub reordered_text : List ℕ
@@ -73,7 +73,7 @@ module _ {D : Type 0} {g : disk.Ghosts D} (image : Image) (path : List ℕ) (tak
   pub record WasJudged (done : Result ⊤ ErrorCode)
       (judged : Result (Held (FileStore D g)) (OpenError D g)) (steps : Steps) : Type 0 where
     pub from : Option (List Step)
-    pub made : Follows (course steps.before from) (making path (scratch_of path) true)
+    pub made : Follows (course steps.before from) (make_steps path (scratch_of path) true)
     pub ordered : IsOrderedByScratch done judged (course from steps.after)
 
   -- what is done with a file in non-canonical order: all of this; or no scratch copy can be made, and the
@@ -81,7 +81,7 @@ module _ {D : Type 0} {g : disk.Ghosts D} (image : Image) (path : List ℕ) (tak
   abbrev pub IsReordered :
       Result ⊤ ErrorCode → Option (Result (Held (FileStore D g)) (OpenError D g)) → Steps → Type 0
   IsReordered done (Some judged) steps = WasJudged done judged steps
-  IsReordered done None steps = IsErrAnd done (λ f. IsLineBreakdown f × IsUntwinned (scratch_of path) steps f)
+  IsReordered done None steps = IsErrAnd done (λ f. IsLineBreakdown f × IsNotCopied (scratch_of path) steps f)
 
   -- nothing is done with a file whose tables are in canonical order
   abbrev pub IsLeftAlone :

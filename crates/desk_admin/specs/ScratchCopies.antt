@@ -22,11 +22,11 @@ use Rattle.desk_host.specs.declared.ways.ReadMode.TheVariants as way
 use Rattle.desk_admin.specs.FilesReported.{CopyOutcome, FailsReporting, FailsToRead, IsCopied, IsNamedIf, IsReadAs}
 use Rattle.desk_admin.specs.AdminOutside.{AdminOutside}
 use Rattle.host_files.specs.Naming.{Follows, LeavesOthers, Step, Steps}
-use Rattle.desk_host.specs.Scratch.{AreRemoved, IsUntwinned, making, scratch_of}
+use Rattle.desk_host.specs.Scratch.{AreRemoved, IsNotCopied, make_steps, scratch_of}
 use Rattle.host_files.specs.Reporting.{IsWrittenIfRoom, line_of}
 use Rattle.desk_admin.specs.Unopened.{IsInMemory}
 use Rattle.db_file.specs.Orders.{order_text}
-use Rattle.desk_host.specs.Ways.{is_mended, untested}
+use Rattle.desk_host.specs.Ways.{is_mended, untested_pages}
 
 -- ---- what is reported
 
@@ -50,27 +50,27 @@ order_line path = line_of path order_text
 
 -- the line that reports what is wrong with a file whose scratch copy is a valid database, by the way in which
 -- it was read: none if nothing is wrong but its WAL
-abbrev pub taken_line : List ℕ → ReadMode → Option (List ℕ)
-taken_line path way.Itself = None
-taken_line path way.Damaged = None
-taken_line path (way.BadChecksums pages) = Some (rows_line path pages rows.OfADesk)
-taken_line path way.OtherOrder = Some (order_line path)
+abbrev pub defect_line : List ℕ → ReadMode → Option (List ℕ)
+defect_line path way.Itself = None
+defect_line path way.Damaged = None
+defect_line path (way.BadChecksums pages) = Some (rows_line path pages rows.OfADesk)
+defect_line path way.OtherOrder = Some (order_line path)
 
 -- the line is written, if there is one: whole, or cut off by a failed write, or not at all without memory
-abbrev pub IsNotedIf : Option (List ℕ) → Course (Option (List ℕ)) → Type 0
-IsNotedIf None writes = writes.after ≡ writes.before
-IsNotedIf (Some line) writes = IsWrittenIfRoom line writes
+abbrev pub IsWrittenIfAny : Option (List ℕ) → Course (Option (List ℕ)) → Type 0
+IsWrittenIfAny None writes = writes.after ≡ writes.before
+IsWrittenIfAny (Some line) writes = IsWrittenIfRoom line writes
 
 -- no scratch copy can be made: the cause and the error code are reported, and nothing is printed
-pub record FailsUntwinned (scratch : List ℕ) (o : AdminOutside) : Type 0 where
+pub record FailsWithoutScratch (scratch : List ℕ) (o : AdminOutside) : Type 0 where
   pub failure : ErrorCode
   pub is : IsLineBreakdown failure
-  pub untwinned : IsUntwinned scratch o.steps failure
+  pub untwinned : IsNotCopied scratch o.steps failure
   pub reported : FailsReporting failure o.end
   pub unprinted : o.writes.after ≡ o.writes.before
 
 -- it is reported that the rows of a file with wrong checksums are invalid, and the error code is `Store`
-pub record FailsNoted (path : List ℕ) (pages : ℕ) (end : Ending) : Type 0 where
+pub record FailsForRows (path : List ℕ) (pages : ℕ) (end : Ending) : Type 0 where
   pub between : Option (List ℕ)
   pub noted : IsWrittenIfRoom (rows_line path pages rows.OfNoDesk) (course end.before between)
   pub fails : FailsWith failure.Store (record end { before = between })
@@ -79,7 +79,7 @@ pub record FailsNoted (path : List ℕ) (pages : ℕ) (end : Ending) : Type 0 wh
 -- `Memory` if memory ran out, which says nothing about the rows; else that the rows are invalid
 abbrev pub AreRowsRefused : List ℕ → ℕ → ErrorCode → Ending → Type 0
 AreRowsRefused path pages f end = ((f ≡ failure.Memory) × FailsWith failure.Memory end)
-    ⊎ ((f ≢ failure.Memory) × FailsNoted path pages end)
+    ⊎ ((f ≢ failure.Memory) × FailsForRows path pages end)
 
 -- what is reported if a scratch copy is refused with the error code f: the above for a file with wrong
 -- checksums; for any other file the cause, and then f
@@ -98,7 +98,7 @@ module _ {D : Type 0} {g : disk.Ghosts D} (image : Image) (path : List ℕ) (way
       : Type 0 where
     pub between : Option (List ℕ)
     pub file : CheckedFile
-    pub noted : IsNotedIf (taken_line path way) (course end.before between)
+    pub noted : IsWrittenIfAny (defect_line path way) (course end.before between)
     pub read : IsReadAs image left file
     pub printed : IsTextPrinted (checked_line file) (record end { before = between })
         writes.before writes.after
@@ -118,13 +118,13 @@ module _ {D : Type 0} {g : disk.Ghosts D} (image : Image) (path : List ℕ) (way
 
   -- the same, or no scratch copy can be made
   abbrev pub IsJudgedIf : Option (Result (Held (FileStore D g)) (OpenError D g)) → AdminOutside → Type 0
-  IsJudgedIf None o = FailsUntwinned (scratch_of path) o
+  IsJudgedIf None o = FailsWithoutScratch (scratch_of path) o
   IsJudgedIf (Some judged) o = IsJudged judged o.end o.writes
 
 -- the scratch copy is made of the source file, repaired if `mended`, and removed once it was read
 pub record WasScratch (source scratch : List ℕ) (mended : Bool) (steps : Steps) : Type 0 where
   pub from : Option (List Step)
-  pub made : Follows (course steps.before from) (making source scratch mended)
+  pub made : Follows (course steps.before from) (make_steps source scratch mended)
   pub removed : AreRemoved scratch (course from steps.after)
 
 -- ---- copy
@@ -132,7 +132,7 @@ pub record WasScratch (source scratch : List ℕ) (mended : Bool) (steps : Steps
 -- if a file with wrong checksums was copied (the status is 0), it is reported that only its rows were tested;
 -- else nothing is reported
 abbrev pub IsTestReported : List ℕ → ReadMode → ℕ → Course (Option (List ℕ)) → Type 0
-IsTestReported path way status writes = MatchOption (untested way status) (writes.after ≡ writes.before)
+IsTestReported path way status writes = MatchOption (untested_pages way status) (writes.after ≡ writes.before)
     (λ pages. IsWrittenIfRoom (rows_line path pages rows.TestedAlone) writes)
 
 -- a database in memory has no file to copy: the error code is `Store`, and nothing is done or printed
@@ -154,7 +154,7 @@ module _ {D E : Type 0} {g : disk.Ghosts D} {k : disk.Ghosts E} (image other : I
       pub reported : Option (List ℕ)
       pub file : file_of words.database ≡ Some source
       pub made : Follows (course o.steps.before from)
-          (making source (scratch_of (string_bytes words.to)) (is_mended way))
+          (make_steps source (scratch_of (string_bytes words.to)) (is_mended way))
       pub copies : IsCopied image other words.database
           (record o { steps = course from until; end = record o.end { now = reported } }) copied
       pub named : IsNamedIf copied (string_bytes words.to) (course from until)
@@ -166,5 +166,5 @@ module _ {D E : Type 0} {g : disk.Ghosts D} {k : disk.Ghosts E} (image other : I
     -- is printed or copied
     abbrev pub IsCopiedByScratchIf : Option (CopyOutcome g k) → AdminOutside → Type 0
     IsCopiedByScratchIf None o =
-        FailsUntwinned (scratch_of (string_bytes words.to)) o ⊎ HasNoFile words.database o
+        FailsWithoutScratch (scratch_of (string_bytes words.to)) o ⊎ HasNoFile words.database o
     IsCopiedByScratchIf (Some copied) o = IsCopiedByScratch copied o

@@ -6,7 +6,7 @@ use Rattle.sqlite_wal.specs.Recovery.{Image}
 use Rattle.sqlite_store.specs.declared.store.FileStore.{FileStore}
 use Rattle.sqlite.specs.Files.{over_files}
 use Rattle.sqlite.specs.Held.{Held}
-use Rattle.table_load.specs.HeldContent.{AreHoldingsOf}
+use Rattle.table_load.specs.HeldContent.{AreStatsOf}
 use Rattle.desk_tables.specs.Copying.{IsMadeIn, LooksIn}
 use Rattle.table_load.specs.Leaving.{IsSettledAt}
 use Rattle.desk_tables.specs.Store.{Shown}
@@ -22,7 +22,7 @@ found_size (Err kind) = 0
 -- new files, which held the other before; and the statistics are those of the content
 pub record IsStoredAs {D E : Type 0} {g : disk.Ghosts D} {k : disk.Ghosts E} (image other : Image)
     (copied : Held (FileStore D g) × (Shown (FileStore E k) × DbStats)) : Type 0 where
-  pub counted : AreHoldingsOf copied.1.1 copied.1.0.world
+  pub counted : AreStatsOf copied.1.1 copied.1.0.world
   pub looks : LooksIn image copied.0 copied.1.1.is_old copied.1.0.world
   pub made : IsMadeIn other copied.1.0.held
   pub settled : IsSettledAt over_files copied.1.0.held copied.1.0.world

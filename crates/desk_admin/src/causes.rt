@@ -11,10 +11,10 @@ use db_file::order_text;
 use desk_cli::{Database, ErrorCode};
 use desk_host::ways::{ReadMode, read_mode};
 use desk_tables::{InvalidPart, Named, NotOpened, part_at};
-use host_files::access::report_store;
+use host_files::access::report_refused_file;
 use host_files::files::LocalHost;
 use host_files::probing::probe;
-use host_files::reporting::report_of;
+use host_files::reporting::report_text;
 use sqlite::Unknown;
 use sqlite_disk::Disk;
 use std::io::Write;
@@ -32,7 +32,7 @@ pub fn report_made<E: Write>(
 {
     match (database, failure) {
         (Database::File(path), ErrorCode::Store) => {
-            report_store(host.rt, path, path, probe(host.rt, path, true), errors);
+            report_refused_file(host.rt, path, path, probe(host.rt, path, true), errors);
         }
         _ => report_database(host, database, failure, errors),
     }
@@ -69,7 +69,7 @@ pub fn report_cause<E: Write>(
     ensures { Reports (bytes_written E.Write errors.old errors.new) }
 {
     let cause = match failure {
-        ErrorCode::Store => return report_store(
+        ErrorCode::Store => return report_refused_file(
             host.rt,
             path,
             name,
@@ -80,7 +80,7 @@ pub fn report_cause<E: Write>(
         ErrorCode::OldSchema => "rows of schema 1: migrate it",
         _ => return,
     };
-    report_of(host.alloc(), name, cause, errors);
+    report_text(host.alloc(), name, cause, errors);
 }
 
 // Why the file at `path` is no valid database. It is read once more to find its table order or the invalid

@@ -7,7 +7,7 @@ ghost use Rattle.sqlite_wal.specs.Recovery.{Image};
 ghost use Rattle.desk_store.specs.World.{World};
 ghost use Rattle.desk_program.specs.Looking.{IsTextPrinted, copied_line};
 ghost use Rattle.desk_program.specs.Outside.{bytes_written, ended};
-ghost use Rattle.table_load.specs.HeldContent.{AreHoldingsOf};
+ghost use Rattle.table_load.specs.HeldContent.{AreStatsOf};
 ghost use Rattle.desk_tables.specs.Copying.{AreNotCopied};
 ghost use Rattle.desk_admin.specs.FilesReported.{FailsAtFiles, FailsBy, FailsReporting, FailsToCopy, FailsToLook};
 ghost use Rattle.desk_admin.specs.FilesReported.{FailsToRead};
@@ -31,7 +31,7 @@ use desk_tables::{
 };
 use host_files::files::{Found, HostFiles, LocalHost};
 use host_files::naming::{Folder, NewFile, name_with, names_of, publish};
-use host_files::reporting::report_of;
+use host_files::reporting::report_text;
 use sqlite::{Connection, FileFrom, FileStore, Files, Start};
 use sqlite_disk::Disk;
 use std::alloc::{AllocError, Global};
@@ -239,7 +239,7 @@ pub fn look_in<F: Start>(
 // What `check` reports of a file, from the counts of its rows (`holdings`) and the other statistics
 // (`stats`).
 fn checked_file(holdings: &DbStats, stats: FileStats) -> CheckedFile
-    ensures counted { (w : World) → AreHoldingsOf holdings.now w → ReportsHoldings result w }
+    ensures counted { (w : World) → AreStatsOf holdings.now w → ReportsHoldings result w }
     ensures schema { result.is_old ≡ holdings.now.is_old }
     ensures stats { (result.has_checksums ≡ stats.has_checksums) × (result.size ≡ stats.size)
         × (result.log ≡ stats.log) }
@@ -457,7 +457,7 @@ fn publish_copy<P: Folder, E: Write>(
         return Ok(());
     }
     let cause = "it can't be given its name, or its folder can't be synced";
-    report_of(alloc, &names.to, cause, errors);
+    report_text(alloc, &names.to, cause, errors);
     Err(ErrorCode::Store)
 }
 
@@ -535,7 +535,7 @@ fn make_room_or_report<P: Folder, E: Write>(
     match make_room(folder, source, names) {
         Ok(()) => Ok(()),
         Err(taken) => {
-            report_of(alloc, taken.path, taken.cause, errors);
+            report_text(alloc, taken.path, taken.cause, errors);
             Err(ErrorCode::Store)
         }
     }
@@ -563,7 +563,7 @@ fn report_and_discard<P: Folder, E: Write>(
     }
     if let ErrorCode::Store = failure {
         let cause = "it can't be written: a full disk, or one that fails";
-        report_of(host.alloc(), &names.to, cause, errors);
+        report_text(host.alloc(), &names.to, cause, errors);
     }
     folder.remove(&names.part);
     folder.remove(&names.part_log);

@@ -12,7 +12,7 @@ ghost use Rattle.desk_admin.specs.Reordering as spec;
 ghost use Rattle.desk_admin.specs.Reordering.{IsAdmitted, IsOrderedByScratch, IsOrderedOr, IsReorderReported, IsReordered};
 ghost use Rattle.desk_admin.specs.Reordering.{IsReorderedIf};
 ghost use Rattle.desk_admin.specs.Unopened.{IsOpenFailure};
-ghost use Rattle.desk_host.specs.Scratch.{AreTwins};
+ghost use Rattle.desk_host.specs.Scratch.{AreScratchPaths};
 ghost use Rattle.host_files.specs.Reporting.{IsWrittenIfRoom, Reports};
 
 use crate::causes::report_cause;
@@ -24,7 +24,7 @@ use desk_host::ways::{ReadMode, read_mode};
 use host_files::access::access_cause;
 use host_files::files::{HostFiles, LocalHost};
 use host_files::naming::Folder;
-use host_files::reporting::report_of;
+use host_files::reporting::report_text;
 use sqlite::{FileFrom, Start, Unknown};
 use sqlite_disk::Disk;
 use std::alloc::Global;
@@ -149,7 +149,7 @@ fn reorder_if_valid<D: Disk + Drop, P: Folder, E: Write>(
     errors: &mut E,
 ) -> (Result<(), ErrorCode>, ReadResult<D>)
     ensures ordered { (image : Image) → IfOk found (λ it. IsReadAs image it.0 it.1)
-        → IfErr found (FailsToRead image) → AreTwins file.entry.path.now scratch.now
+        → IfErr found (FailsToRead image) → AreScratchPaths file.entry.path.now scratch.now
         → IsOrderedByScratch image file.entry.path.now file.entry.takes_old result.0 result.1
         (steps_of P.Folder folder.old folder.new) }
     ensures noted { OnOk result.0 (IsWrittenIfRoom (spec.reordered_line file.entry.path.now)
@@ -209,10 +209,10 @@ fn reorder_or_report<P: Folder, E: Write>(
 {
     if !folder.order(path) {
         let cause = access_cause(host.rt, path).unwrap_or(UNWRITTEN);
-        report_of(host.alloc(), path, cause, errors);
+        report_text(host.alloc(), path, cause, errors);
         return Err(ErrorCode::Store);
     }
-    report_of(host.alloc(), path, REORDERED, errors);
+    report_text(host.alloc(), path, REORDERED, errors);
     Ok(())
 }
 

@@ -10,7 +10,7 @@ ghost use Rattle.desk_admin.specs.AdminOutside.{admin_outside};
 ghost use Rattle.host_files.specs.FolderSteps.{steps_of};
 ghost use Rattle.desk_host.specs.Scratch.{scratch_of};
 ghost use Rattle.desk_admin.specs.ScratchCopies as spec;
-ghost use Rattle.desk_admin.specs.ScratchCopies.{AreRowsRefused, IsCopiedByScratchIf, IsJudged, IsJudgedIf, IsNotedIf};
+ghost use Rattle.desk_admin.specs.ScratchCopies.{AreRowsRefused, IsCopiedByScratchIf, IsJudged, IsJudgedIf, IsWrittenIfAny};
 ghost use Rattle.desk_admin.specs.ScratchCopies.{IsTestReported, IsScratchRefused, WasScratch};
 ghost use Rattle.host_files.specs.Reporting.{IsWrittenIfRoom};
 ghost use Rattle.desk_host.specs.Ways.{is_mended};
@@ -25,7 +25,7 @@ use desk_host::ways::ReadMode;
 use desk_program::{CheckedFile, print_checked};
 use host_files::files::LocalHost;
 use host_files::naming::Folder;
-use host_files::reporting::{report_line, report_of};
+use host_files::reporting::{report_line, report_text};
 use sqlite::{Connection, FileFrom, FileStore, Start};
 use sqlite_disk::Disk;
 use std::alloc::{AllocError, Global};
@@ -151,7 +151,7 @@ fn report_found<D: Disk + Drop, W: Write + Drop, E: Write + Drop>(
 // Reports what is wrong with a file whose scratch copy is a valid database: its checksums or its table order,
 // by the `way` in which it was read. A failed write and running out of memory are ignored.
 fn report_defect<E: Write>(alloc: Global, path: &str, way: ReadMode, errors: &mut E)
-    ensures { IsNotedIf (spec.taken_line path.now way) (bytes_written E.Write errors.old errors.new) }
+    ensures { IsWrittenIfAny (spec.defect_line path.now way) (bytes_written E.Write errors.old errors.new) }
 {
     match way {
         ReadMode::BadChecksums(pages) => report_rows(alloc, path, pages, Rows::OfADesk, errors),
@@ -281,7 +281,7 @@ pub fn status_copied_by_scratch<D: Disk + Drop, N: Disk + Drop, E>(
 fn report_tested<E: Write>(alloc: Global, path: &str, way: ReadMode, status: u8, errors: &mut E)
     ensures { IsTestReported path.now way status (bytes_written E.Write errors.old errors.new) }
 {
-    if let Some(pages) = way.untested(status) {
+    if let Some(pages) = way.untested_pages(status) {
         report_rows(alloc, path, pages, Rows::TestedAlone, errors);
     }
 }
@@ -302,7 +302,7 @@ fn report_rows<E: Write>(alloc: Global, path: &str, pages: u64, rows: Rows, erro
 fn report_order<E: Write>(alloc: Global, path: &str, errors: &mut E)
     ensures { IsWrittenIfRoom (spec.order_line path.now) (bytes_written E.Write errors.old errors.new) }
 {
-    report_of(alloc, path, order_text(), errors);
+    report_text(alloc, path, order_text(), errors);
 }
 
 // The line that reports that so many `pages` have wrong checksums, and what is known of the rows

@@ -10,7 +10,7 @@ use Rattle.sqlite_value.specs.declared.value.Value.TheVariants.{Text}
 use Rattle.sqlite_value.proofs.OrderLemmas.{value_cmp_total}
 use Rattle.sqlite.specs.Order.{Row, column, value_cmp}
 use Rattle.desk_sql.specs.Rows.{Tables, is_text, is_row_by, is_of, is_not_of, left_without, RemovesPlan}
-use Rattle.desk_changes.specs.Batches.{RemovesPlans, is_of_none, ids_there}
+use Rattle.desk_changes.specs.Batches.{RemovesPlans, is_of_none, ids_stored}
 
 -- ---- ids that a row has
 
@@ -195,23 +195,23 @@ module _ (operator : List ℕ) (xs : List (List ℕ)) (id : List ℕ) (a b : Tab
           ap (λ c. c || list_any (is_of operator id) (filter (is_of_none operator xs) plans)) e ∙ ih f
       by_test false false e f ih = ih f
 
-  there_more : (c : Bool) → has id ≡ c → ids_there operator (xs ++ id ∷ []) a ≡ ids_there operator xs a
+  there_more : (c : Bool) → has id ≡ c → ids_stored operator (xs ++ id ∷ []) a ≡ ids_stored operator xs a
       ++ cond c (id ∷ []) []
   there_more c e = filter-append has xs (id ∷ []) ∙ ap (λ d. filter has xs ++ cond d (id ∷ []) []) e
 
   -- the rows that are left once the id's plan went too
   left : b.plans ≡ filter (is_of_none operator xs) a.plans → (old rows : List Row) → rows
-      ≡ filter (is_of_none operator (ids_there operator xs a)) old
+      ≡ filter (is_of_none operator (ids_stored operator xs a)) old
       → left_without operator id b rows ≡ filter
-      (is_of_none operator (ids_there operator (xs ++ id ∷ []) a))
+      (is_of_none operator (ids_stored operator (xs ++ id ∷ []) a))
       old
   left plans old rows are = by_tests (has id) (list_any (is_of operator id) b.plans) refl refl where
     others : List (List ℕ)
-    others = ids_there operator xs a
+    others = ids_stored operator xs a
 
     by_tests : (there still : Bool) → has id ≡ there → list_any (is_of operator id) b.plans ≡ still
         → cond still (filter (is_not_of operator id) rows) rows
-        ≡ filter (is_of_none operator (ids_there operator (xs ++ id ∷ []) a)) old
+        ≡ filter (is_of_none operator (ids_stored operator (xs ++ id ∷ []) a)) old
     by_tests true true e f = ap (filter (is_not_of operator id)) are ∙ one_more operator others id old
         ∙ sym (ap (λ ids. filter (is_of_none operator ids) old) (there_more true e))
     by_tests true false e f = are ∙ filter_on _ _ same old

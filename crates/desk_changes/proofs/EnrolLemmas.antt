@@ -5,7 +5,7 @@ use Rattle.std.proofs.lemmas.List.Sorted.{list_any-IsPermutation, IsPermutation-
 use Rattle.sqlite.specs.Order.{Row, column}
 use Rattle.sqlite.specs.Effect.{Database}
 use Rattle.desk_sql.specs.Rows.{Tables, AddsOperator, PutsOperator, SetsOperators, is_row_by, operator_row, tables_of, with_row}
-use Rattle.desk_changes.specs.RowChanges.{StaysUnless}
+use Rattle.desk_changes.specs.RowChanges.{OperatorsStayUnless}
 use Rattle.desk_sql.specs.Changing.{FitsOperator, HasRowids, IsShort, LacksKey}
 use Rattle.desk_sql.proofs.lemmas.Cascade.{null_is_none}
 use Rattle.desk_sql.proofs.lemmas.Number.{any_same}
@@ -88,7 +88,7 @@ module _ (name : List ℕ) (ceiling count : ℕ) (t : Tables)
 pub fits_unlisted : (name : List ℕ) (ceiling count : ℕ) (old new : Database)
     → count ≡ length (filter (is_row_by name) (tables_of old.trees).operators) → count ≡ 0
     → SetsOperators (is_row_by name) (operator_row name ceiling) (tables_of old.trees) (tables_of new.trees)
-    → StaysUnless (is_row_by name) old.trees new.trees → IsShort name
+    → OperatorsStayUnless (is_row_by name) old.trees new.trees → IsShort name
     → HasRowids 1 (old.trees 0) → FitsOperator name (operator_row name ceiling) new
 fits_unlisted name ceiling count old new counted zero set stays short room =
     let now = tables_of new.trees in

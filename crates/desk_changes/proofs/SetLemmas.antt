@@ -19,7 +19,7 @@ use Rattle.desk_sql.specs.Schema.{operator_table, plan_table}
 use Rattle.desk_sql.specs.Rows.{IsDesk, AreNumbered, is_text, is_row_by, is_of, columns, tables_of, operator_row, plan_row, with_row, SetsOperators, SetsPlans}
 use Rattle.desk_sql.specs.Statements.{Changes}
 use Rattle.desk_changes.specs.Putting.{TextCounts, TextTakes}
-use Rattle.desk_changes.specs.RowChanges.{StaysUnless, closing_row}
+use Rattle.desk_changes.specs.RowChanges.{OperatorsStayUnless, closing_row}
 use Rattle.desk_sql.proofs.lemmas.Texts.{set_ceiling_text, close_plan_text}
 use Rattle.desk_sql.proofs.lemmas.CommandTexts.{set_ceiling_is, set_ceiling_query, close_plan_is, close_plan_query}
 use Rattle.desk_sql.proofs.lemmas.Read.{equals_text}
@@ -187,7 +187,7 @@ set_ceiling_counts name ceiling = record {
 
 -- where there is none, it writes nothing
 pub set_ceiling_room : (name : List ℕ) (ceiling : ℕ)
-    → TextTakes set_ceiling_text (operator_row name ceiling) (StaysUnless (is_row_by name))
+    → TextTakes set_ceiling_text (operator_row name ceiling) (OperatorsStayUnless (is_row_by name))
 set_ceiling_room name ceiling = record {
   room = λ limit old new desk h none.
       let params = operator_row name ceiling in

@@ -84,8 +84,8 @@ abbrev pub is_of_none : List ℕ → List (List ℕ) → Row → Bool
 is_of_none operator ids row = not (list_any (λ id. is_of operator id row) ids)
 
 -- those of the ids whose plan is stored
-abbrev pub ids_there : List ℕ → List (List ℕ) → Tables → List (List ℕ)
-ids_there operator ids old = filter (λ id. list_any (is_of operator id) old.plans) ids
+abbrev pub ids_stored : List ℕ → List (List ℕ) → Tables → List (List ℕ)
+ids_stored operator ids old = filter (λ id. list_any (is_of operator id) old.plans) ids
 
 -- the operator's plans with these ids are removed, and with each that is stored its volumes and spans
 abbrev pub RemovesPlans : List ℕ → List (List ℕ) → Tables → Tables → Type 0
@@ -93,9 +93,9 @@ RemovesPlans operator ids old new =
     new ≡ record {
       operators = old.operators;
       plans = filter (is_of_none operator ids) old.plans;
-      old_volumes = filter (is_of_none operator (ids_there operator ids old)) old.old_volumes;
-      old_spans = filter (is_of_none operator (ids_there operator ids old)) old.old_spans;
-      volumes = filter (is_of_none operator (ids_there operator ids old)) old.volumes;
-      covers = filter (is_of_none operator (ids_there operator ids old)) old.covers;
-      spans = filter (is_of_none operator (ids_there operator ids old)) old.spans;
+      old_volumes = filter (is_of_none operator (ids_stored operator ids old)) old.old_volumes;
+      old_spans = filter (is_of_none operator (ids_stored operator ids old)) old.old_spans;
+      volumes = filter (is_of_none operator (ids_stored operator ids old)) old.volumes;
+      covers = filter (is_of_none operator (ids_stored operator ids old)) old.covers;
+      spans = filter (is_of_none operator (ids_stored operator ids old)) old.spans;
     }

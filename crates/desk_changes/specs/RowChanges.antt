@@ -78,8 +78,8 @@ fits (SetClosed operator id priority aircraft) db =
 fits _ db = ⊤
 
 -- if no row of `operator` passes, the b-tree of `operator` (0) stays
-abbrev pub StaysUnless : (Row → Bool) → Trees → Trees → Type 0
-StaysUnless passes old new = list_any passes (tables_of old).operators ≡ false → new 0 ≡ old 0
+abbrev pub OperatorsStayUnless : (Row → Bool) → Trees → Trees → Type 0
+OperatorsStayUnless passes old new = list_any passes (tables_of old).operators ≡ false → new 0 ≡ old 0
 
 -- how many rows a change counts; nothing is said of those whose count no caller needs
 abbrev pub counts : RowChange → ℕ → Tables → Type 0
@@ -92,7 +92,7 @@ takes (AddOperator name ceiling) old new = TakesOperators 1 old new
 takes (AddPlan p) old new = TakesRoom 1 0 0 old new
 takes (AddVolume v) old new = TakesRoom 0 1 0 old new
 takes (AddSpan s) old new = TakesRoom 0 0 1 old new
-takes (SetCeiling name ceiling) old new = StaysUnless (is_row_by name.now) old new
+takes (SetCeiling name ceiling) old new = OperatorsStayUnless (is_row_by name.now) old new
 takes (SetClosed operator id priority aircraft) old new = ⊤
 takes (RemoveSpans operator id) old new = ⊤
 takes _ old new = TakesRoom 0 0 0 old new
@@ -121,7 +121,7 @@ DoesAddOperator name ceiling text =
 abbrev pub DoesSetCeiling : List ℕ → ℕ → List ℕ → Type 0
 DoesSetCeiling name ceiling text =
     Does text (operator_row name ceiling) (SetsOperators (is_row_by name) (operator_row name ceiling))
-    (λ db. IsShort name × AreLow (db.trees 0)) (StaysUnless (is_row_by name))
+    (λ db. IsShort name × AreLow (db.trees 0)) (OperatorsStayUnless (is_row_by name))
     (λ count t. count ≡ length (filter (is_row_by name) t.operators))
 
 abbrev pub DoesSetClosed : List ℕ → List ℕ → ℕ → ℕ → List ℕ → Type 0

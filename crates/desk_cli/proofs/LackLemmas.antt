@@ -12,7 +12,7 @@ use Rattle.clap.specs.declared.error.kind.ErrorKind.TheVariants as kind
 use Rattle.desk_rules.specs.Permission.{permitted_in}
 use Rattle.desk_rules.specs.declared.permission.PermitFault.{PermitFault}
 use Rattle.desk_cli.specs.Equal.{ArePermittedIn, is_comma, priority_in}
-use Rattle.desk_cli.specs.Grammar.{IsUntaken, RefusesOnlyWithout, program}
+use Rattle.desk_cli.specs.Grammar.{IsRefusedByClap, RefusesOnlyWithout, program}
 use Rattle.desk_cli.specs.declared.line.WordsFault.{WordsFault}
 use Rattle.desk_cli.specs.declared.line.WordsFault.TheVariants as fault
 
@@ -81,10 +81,10 @@ pub untaken : {A : Type 0} (words : List Text) (app : App) (done : Result A Word
     → app ≡ program
     → IsErrAnd done (λ f. (f ≡ fault.OutOfMemory)
     ⊎ ((f ≡ fault.Words e) × (kind_of e ≢ kind.OutOfMemory)))
-    → (takes app words ≡ true → kind_of e ≡ kind.OutOfMemory) → IfErr done (IsUntaken words)
+    → (takes app words ≡ true → kind_of e ≡ kind.OutOfMemory) → IfErr done (IsRefusedByClap words)
 untaken words app (Ok value) e same reported passes = tt
-untaken words app (Err f) e same (inl is) passes = subst (IsUntaken words) (sym is) tt
-untaken words app (Err f) e same (inr other) passes = subst (IsUntaken words) (sym other.0) (
+untaken words app (Err f) e same (inl is) passes = subst (IsRefusedByClap words) (sym is) tt
+untaken words app (Err f) e same (inr other) passes = subst (IsRefusedByClap words) (sym other.0) (
   λ taken. other.1 (passes (subst (λ a. takes a words ≡ true) (sym same) taken)),
   other.1,
 )

@@ -5,14 +5,14 @@ use Rattle.std.proofs.KnownBytes.{Appends-trans}
 use Rattle.std.specs.Io.KnownBytes.{Appends}
 use Rattle.io_ends.specs.Writing.{BreaksOff}
 use Rattle.io_ends.specs.declared.writing.PartialWrite.{PartialWrite}
-use Rattle.desk_cli.specs.Written.{HasBegun}
+use Rattle.desk_cli.specs.Written.{IsPartlyWritten}
 
 some_left : (n : ℕ) (bytes : List ℕ) → n < length bytes → drop n bytes ≢ []
 some_left n bytes short none = omega (arith, short, ap length none, length-drop n bytes)
 
 -- what a write that broke off leaves
 pub begun_part : (bytes : List ℕ) (out now : Option (List ℕ)) (fault : PartialWrite)
-    → BreaksOff bytes out now fault → HasBegun bytes out now
+    → BreaksOff bytes out now fault → IsPartlyWritten bytes out now
 begun_part bytes out now fault off = record {
   begun = take fault.sent bytes;
   rest = drop fault.sent bytes;
@@ -22,7 +22,7 @@ begun_part bytes out now fault off = record {
 }
 
 -- a beginning of the first part begins the whole
-pub begun_first : (a b : List ℕ) (out now : Option (List ℕ)) → HasBegun a out now → HasBegun (a ++ b) out now
+pub begun_first : (a b : List ℕ) (out now : Option (List ℕ)) → IsPartlyWritten a out now → IsPartlyWritten (a ++ b) out now
 begun_first a b out now h = record {
   begun = h.begun;
   rest = h.rest ++ b;
@@ -36,8 +36,8 @@ begun_first a b out now h = record {
     empty_first (x ∷ xs) ys none = cc
 
 -- the first part, and then a beginning of the second
-pub begun_next : (a b : List ℕ) (out now after : Option (List ℕ)) → Appends out now a → HasBegun b now after
-    → HasBegun (a ++ b) out after
+pub begun_next : (a b : List ℕ) (out now after : Option (List ℕ)) → Appends out now a → IsPartlyWritten b now after
+    → IsPartlyWritten (a ++ b) out after
 begun_next a b out now after whole h = record {
   begun = a ++ h.begun;
   rest = h.rest;

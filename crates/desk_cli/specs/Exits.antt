@@ -18,7 +18,7 @@ use Rattle.io_ends.specs.declared.serving.Served.TheVariants.{Answered, End}
 use Rattle.desk_cli.specs.declared.failure.ErrorCode.{ErrorCode}
 use Rattle.desk_cli.specs.declared.failure.ErrorCode.TheVariants as failure
 use Rattle.desk_cli.specs.declared.failure.ExitReport.{ExitReport}
-use Rattle.desk_cli.specs.Written.{HasBegun, HasWritten}
+use Rattle.desk_cli.specs.Written.{IsPartlyWritten, IsWrittenOrCut}
 
 -- the exit status: 2 for the arguments, 3 for the input, 4 for the rest
 abbrev pub failure_status : ErrorCode → ℕ
@@ -102,14 +102,14 @@ ending exit before now =
 
 -- after a failure the line with its error code is written, or, if `cut`, a beginning of it; else nothing is.
 -- `out` is what the writer held before
-abbrev pub IsConcluded :
+abbrev pub IsExitReported :
     {A : Type 0} → Result A ErrorCode → Bool → Option (List ℕ) → Option (List ℕ) → Type 0
-IsConcluded (Ok done) cut out now = (cut ≡ false) × (now ≡ out)
-IsConcluded (Err f) cut out now = HasWritten cut (failure_line f) out now
+IsExitReported (Ok done) cut out now = (cut ≡ false) × (now ≡ out)
+IsExitReported (Err f) cut out now = IsWrittenOrCut cut (failure_line f) out now
 
 -- a command ended with the result `done`: the exit status and the printed error code are those of `done`
 abbrev pub EndsWith : {A : Type 0} → Result A ErrorCode → Ending → Type 0
-EndsWith done end = (end.status ≡ exit_status done) × IsConcluded done end.cut end.before end.now
+EndsWith done end = (end.status ≡ exit_status done) × IsExitReported done end.cut end.before end.now
 
 -- no error code was printed
 abbrev pub IsSilent : Ending → Type 0
@@ -121,7 +121,7 @@ EndsWell end = (end.status ≡ 0) × IsSilent end
 
 -- a command ended with the status of this failure, and its error code was printed, perhaps cut off
 abbrev pub FailsWith : ErrorCode → Ending → Type 0
-FailsWith f end = (end.status ≡ failure_status f) × HasWritten end.cut (failure_line f) end.before end.now
+FailsWith f end = (end.status ≡ failure_status f) × IsWrittenOrCut end.cut (failure_line f) end.before end.now
 
 -- a line is printed whole if the result is Ok; after a failure it is printed whole or not at all, or, if the
 -- failure is that of a write, cut off
@@ -129,7 +129,7 @@ abbrev pub IsAnnounced :
     {A : Type 0} → Result A ErrorCode → List ℕ → Option (List ℕ) → Option (List ℕ) → Type 0
 IsAnnounced (Ok done) line out now = Appends out now line
 IsAnnounced (Err f) line out now =
-    Appends out now line ⊎ (now ≡ out) ⊎ ((f ≡ failure.Write) × HasBegun line out now)
+    Appends out now line ⊎ (now ≡ out) ⊎ ((f ≡ failure.Write) × IsPartlyWritten line out now)
 
 -- what stops an enrolment of a valid operator: memory ran out, or the store failed
 abbrev pub IsLineBreakdown : ErrorCode → Type 0

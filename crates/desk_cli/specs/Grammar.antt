@@ -23,7 +23,7 @@ use Rattle.desk_rules.specs.declared.terms.Terms.{Terms}
 use Rattle.volume4d.specs.VolumeLimits.{max_second}
 use Rattle.desk_cli.specs.Equal.{ArePermittedBy, priority_in}
 use Rattle.desk_cli.specs.Lines.{IsLine, file_of, max_connections, max_port}
-use Rattle.desk_cli.specs.Lines.{min_connections, min_most, min_port, named_file}
+use Rattle.desk_cli.specs.Lines.{min_connections, min_limit, min_port, named_file}
 use Rattle.desk_cli.specs.declared.line.CopyArgs.{CopyArgs as CopyWords}
 use Rattle.desk_cli.specs.declared.line.CoverArgs.{CoverArgs}
 use Rattle.desk_cli.specs.declared.line.DeskArgs.{DeskArgs}
@@ -73,10 +73,10 @@ abbrev pub equal : Rule
 equal = option (codes "equal") (codes "equal")
 
 abbrev pub spans : Rule
-spans = number_between min_most (pos max_spans) (option (codes "spans") (codes "spans"))
+spans = number_between min_limit (pos max_spans) (option (codes "spans") (codes "spans"))
 
 abbrev pub cells : Rule
-cells = number_between min_most (pos max_total_cells) (option (codes "cells") (codes "cells"))
+cells = number_between min_limit (pos max_total_cells) (option (codes "cells") (codes "cells"))
 
 -- the file of enrolments
 abbrev pub operators : Rule
@@ -166,21 +166,21 @@ IsNumberOrNone id rows None = one_of id rows ≡ None
 IsNumberOrNone id rows (Some n) = IsNumberGiven id rows n
 
 -- the limit that the option `id` has, from `min_limit` to `greatest`; None if the option is missing
-abbrev pub IsMostOf : Text → ℕ → List Row → Option ℕ → Type 0
-IsMostOf id greatest rows most = IfSome most (IsInRange min_most greatest) × IsNumberOrNone id rows most
+abbrev pub IsLimitGiven : Text → ℕ → List Row → Option ℕ → Type 0
+IsLimitGiven id greatest rows most = IfSome most (IsInRange min_limit greatest) × IsNumberOrNone id rows most
 
 -- the limit on the spans of an operator's live plans, and the limit on the cells of all its plans
-abbrev pub AreMostSpans : List Row → Option ℕ → Type 0
-AreMostSpans rows most = IsMostOf (codes "spans") max_spans rows most
+abbrev pub IsSpanLimitGiven : List Row → Option ℕ → Type 0
+IsSpanLimitGiven rows most = IsLimitGiven (codes "spans") max_spans rows most
 
-abbrev pub AreMostCells : List Row → Option ℕ → Type 0
-AreMostCells rows most = IsMostOf (codes "cells") max_total_cells rows most
+abbrev pub IsCellLimitGiven : List Row → Option ℕ → Type 0
+IsCellLimitGiven rows most = IsLimitGiven (codes "cells") max_total_cells rows most
 
 -- the settings of a desk that the arguments give
 pub record AreTermsOf (rows : List Row) (terms : Terms) : Type 0 where
   pub permitted : ArePermittedBy (first_of (codes "equal") rows) terms.permitted
-  pub spans : AreMostSpans rows terms.spans
-  pub cells : AreMostCells rows terms.cells
+  pub spans : IsSpanLimitGiven rows terms.spans
+  pub cells : IsCellLimitGiven rows terms.cells
 
 -- whether the flag `id` was given
 abbrev pub is_given : Text → List Row → Bool
@@ -312,14 +312,14 @@ RefusesOnlyWithout Is (Err (fault.Words error)) = ⊥
 RefusesOnlyWithout {A} {B} Is (Err fault.Value) = (value : B) → Is value → ⊥
 
 -- why `clap` gave no arguments: memory ran out, or `clap` refused the words
-abbrev pub IsUntaken : List Text → WordsFault → Type 0
-IsUntaken words fault.OutOfMemory = ⊤
-IsUntaken words (fault.Words error) = (takes program words ≢ true) × (kind_of error ≢ kind.OutOfMemory)
-IsUntaken words fault.Value = ⊥
+abbrev pub IsRefusedByClap : List Text → WordsFault → Type 0
+IsRefusedByClap words fault.OutOfMemory = ⊤
+IsRefusedByClap words (fault.Words error) = (takes program words ≢ true) × (kind_of error ≢ kind.OutOfMemory)
+IsRefusedByClap words fault.Value = ⊥
 
 -- why a command line is refused: memory ran out, `clap` refused the words, or, for `Value`, no command line
 -- with numbers in range is given by them
 abbrev pub AreWordsRefused : List Text → WordsFault → Type 0
 AreWordsRefused words fault.OutOfMemory = ⊤
-AreWordsRefused words (fault.Words error) = IsUntaken words (fault.Words error)
+AreWordsRefused words (fault.Words error) = IsRefusedByClap words (fault.Words error)
 AreWordsRefused words fault.Value = (it : Line) → IsLine it → IsGiven words it → ⊥

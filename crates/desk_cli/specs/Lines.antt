@@ -32,8 +32,8 @@ abbrev pub max_connections : ℕ
 max_connections = 1000000
 
 -- the least limit on the spans or the cells of an operator's plans
-abbrev pub min_most : ℕ
-min_most = 1
+abbrev pub min_limit : ℕ
+min_limit = 1
 
 -- the path of a database's file; None if the database is in memory
 abbrev pub file_of : Database → Option (List ℕ)

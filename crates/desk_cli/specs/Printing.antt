@@ -17,7 +17,7 @@ use Rattle.desk_cli.specs.declared.line.CoverArgs.{CoverArgs}
 use Rattle.desk_cli.specs.declared.line.Line.{Line}
 use Rattle.desk_cli.specs.declared.line.Line.TheVariants as line
 use Rattle.desk_cli.specs.Exits.{EndsWith, Ending}
-use Rattle.desk_cli.specs.Written.{HasBegun}
+use Rattle.desk_cli.specs.Written.{IsPartlyWritten}
 
 -- the line that reports a cell: a leaf's token is its id in 16 hex digits
 unfoldable pub cell_line : ℕ → List ℕ
@@ -75,10 +75,10 @@ IsRectReported true (Ok rect) (Ok text) = ⊤
 IsRectReported false (Ok rect) (Ok text) = IsCoverText (rect_leaves rect) text
 
 -- the command line is `token` or `cover`
-abbrev pub IsPrinting : Line → Type 0
-IsPrinting (line.Token token) = ⊤
-IsPrinting (line.Cover words) = ⊤
-IsPrinting _ = ⊥
+abbrev pub IsTokenOrCover : Line → Type 0
+IsTokenOrCover (line.Token token) = ⊤
+IsTokenOrCover (line.Cover words) = ⊤
+IsTokenOrCover _ = ⊥
 
 -- the result of `token` or `cover`
 abbrev pub IsTextOf : Line → Result (List ℕ) ErrorCode → Type 0
@@ -90,7 +90,7 @@ IsTextOf _ reported = ⊥
 -- memory ran out and nothing is printed, or a write failed after a beginning of the result was printed
 abbrev pub IsPrintingGivenUp : Line → ErrorCode → Option (List ℕ) → Option (List ℕ) → Type 0
 IsPrintingGivenUp line f out now = ((f ≡ failure.Memory) × (now ≡ out))
-    ⊎ ((f ≡ failure.Write) × ((text : List ℕ) × IsTextOf line (Ok text) × HasBegun text out now))
+    ⊎ ((f ≡ failure.Write) × ((text : List ℕ) × IsTextOf line (Ok text) × IsPartlyWritten text out now))
 
 -- what is printed: the result; nothing, if the result is a failure; or what was printed until memory ran out
 -- or a write failed

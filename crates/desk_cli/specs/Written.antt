@@ -3,7 +3,7 @@ use Rattle.std.specs.Prelude.{◌≡◌, ◌≢◌, ℕ, Bool, true, false, List
 use Rattle.std.specs.Io.KnownBytes.{Appends}
 
 -- a beginning of the bytes is written, not all of them, and nothing else
-pub record HasBegun (bytes : List ℕ) (out now : Option (List ℕ)) : Type 0 where
+pub record IsPartlyWritten (bytes : List ℕ) (out now : Option (List ℕ)) : Type 0 where
   pub begun : List ℕ
   pub rest : List ℕ
   pub parts : bytes ≡ begun ++ rest
@@ -11,6 +11,6 @@ pub record HasBegun (bytes : List ℕ) (out now : Option (List ℕ)) : Type 0 wh
   pub written : Appends out now begun
 
 -- by whether a failed write cut them off: all of the bytes are written, or a beginning
-abbrev pub HasWritten : Bool → List ℕ → Option (List ℕ) → Option (List ℕ) → Type 0
-HasWritten false bytes out now = Appends out now bytes
-HasWritten true bytes out now = HasBegun bytes out now
+abbrev pub IsWrittenOrCut : Bool → List ℕ → Option (List ℕ) → Option (List ℕ) → Type 0
+IsWrittenOrCut false bytes out now = Appends out now bytes
+IsWrittenOrCut true bytes out now = IsPartlyWritten bytes out now

@@ -3,7 +3,7 @@
 ghost use Rattle.std.specs.Prelude.{◌≡◌, IfErr, None, OnOk, is_some};
 ghost use Rattle.std.specs.Io.KnownBytes.{Appends};
 ghost use Rattle.desk_cli.specs.Exits as spec;
-ghost use Rattle.desk_cli.specs.Written.{HasBegun, HasWritten};
+ghost use Rattle.desk_cli.specs.Written.{IsPartlyWritten, IsWrittenOrCut};
 ghost use Rattle.desk_cli.specs.declared.failure.ErrorCode.TheVariants as failure;
 
 use desk_run::DeskFault;
@@ -228,7 +228,7 @@ impl<E> ExitReport<E> {
 /// `errors` as `uss_desk: WORD`. A write error there doesn't change the status, and is returned in `cut`.
 pub fn report_exit<E: Write>(errors: &mut E, done: Result<(), ErrorCode>) -> ExitReport<E>
     ensures status { result.status ≡ spec.exit_status done }
-    ensures reported { spec.IsConcluded done (is_some result.cut) (E.contents errors.old)
+    ensures reported { spec.IsExitReported done (is_some result.cut) (E.contents errors.old)
         (E.contents errors.new) }
 {
     match done {
@@ -242,7 +242,7 @@ pub fn report_exit<E: Write>(errors: &mut E, done: Result<(), ErrorCode>) -> Exi
 
 // Prints the line `uss_desk: WORD`, and returns the write error, if there was one.
 fn print_failure<E: Write>(errors: &mut E, failure: ErrorCode) -> Option<WriteError<E>>
-    ensures { HasWritten (is_some result) (spec.failure_line failure) (E.contents errors.old)
+    ensures { IsWrittenOrCut (is_some result) (spec.failure_line failure) (E.contents errors.old)
         (E.contents errors.new) }
 {
     match write_failure(errors, failure) {
@@ -255,7 +255,7 @@ fn print_failure<E: Write>(errors: &mut E, failure: ErrorCode) -> Option<WriteEr
 fn write_failure<E: Write>(errors: &mut E, failure: ErrorCode) -> Result<(), WriteError<E>>
     ensures ok { OnOk result (Appends (E.contents errors.old) (E.contents errors.new)
         (spec.failure_line failure)) }
-    ensures err { IfErr result (λ _. HasBegun (spec.failure_line failure)
+    ensures err { IfErr result (λ _. IsPartlyWritten (spec.failure_line failure)
         (E.contents errors.old) (E.contents errors.new)) }
 {
     write_whole(errors, b"uss_desk: ")?;

@@ -13,16 +13,16 @@ ghost use Rattle.io_ends.specs.Moments.{IsMoment};
 ghost use Rattle.desk_cli.specs.Copies.{SameDesk};
 ghost use Rattle.desk_cli.specs.Equal.{ArePermittedBy};
 ghost use Rattle.desk_cli.specs.Grammar as spec;
-ghost use Rattle.desk_cli.specs.Grammar.{AreEnrolmentsGiven, AreMostCells, AreMostSpans, AreTermsOf};
+ghost use Rattle.desk_cli.specs.Grammar.{AreEnrolmentsGiven, IsCellLimitGiven, IsSpanLimitGiven, AreTermsOf};
 ghost use Rattle.desk_cli.specs.Grammar.{AreWordsRefused, HasGiven};
 ghost use Rattle.desk_cli.specs.Grammar.{IsBareDeskGiven, IsCopyGiven, IsCoverGiven, IsDeskGiven};
-ghost use Rattle.desk_cli.specs.Grammar.{IsEnrolGiven, IsGiven, IsLineOf, IsMostOf, IsNumberGiven};
+ghost use Rattle.desk_cli.specs.Grammar.{IsEnrolGiven, IsGiven, IsLineOf, IsLimitGiven, IsNumberGiven};
 ghost use Rattle.desk_cli.specs.Grammar.{IsNumberOrNone, IsPlayGiven, IsReplayGiven, IsIntegerGiven};
-ghost use Rattle.desk_cli.specs.Grammar.{IsServeGiven, IsTextGiven, IsUntaken};
+ghost use Rattle.desk_cli.specs.Grammar.{IsServeGiven, IsTextGiven, IsRefusedByClap};
 ghost use Rattle.desk_cli.specs.Grammar.{RefusesOnlyWithout, enrolment_given, enrolment_in, file_given, name_of, program};
 ghost use Rattle.desk_cli.specs.Lines.{AreEnrolments, IsCover, IsEnrol, IsMomentIfGiven, IsLine, IsPlay};
 ghost use Rattle.desk_cli.specs.Lines.{IsReplay, IsServe, desk_of, file_of, max_connections, max_port};
-ghost use Rattle.desk_cli.specs.Lines.{min_connections, min_most, min_port, named_file};
+ghost use Rattle.desk_cli.specs.Lines.{min_connections, min_limit, min_port, named_file};
 ghost use Rattle.desk_cli.specs.declared.line.CoverArgs.{CoverArgs};
 ghost use Rattle.desk_cli.specs.declared.line.WordsFault.TheVariants as fault;
 
@@ -298,7 +298,7 @@ fn parse_command(alloc: Global, words: &[String]) -> Result<Line, WordsFault>
 pub(crate) fn match_words(alloc: Global, words: &[String]) -> Result<ArgMatches<'_>, WordsFault>
     ensures found { IfOk result (λ matches.
         subcommand_rows_of matches ≡ subcommand_of program (map string_bytes words.now)) }
-    ensures refused { IfErr result (IsUntaken (map string_bytes words.now)) }
+    ensures refused { IfErr result (IsRefusedByClap (map string_bytes words.now)) }
 {
     Ok(make_command(alloc)?.try_get_matches_from(words)?)
 }
@@ -659,24 +659,24 @@ fn read_terms(alloc: Global, given: &ArgMatches<'_>) -> Result<Terms, WordsFault
 
 // Reads the limit on the spans of an operator's live plans. None if the option is missing.
 fn read_spans(given: &ArgMatches<'_>) -> Result<Option<u32>, WordsFault>
-    ensures given { IfOk result (AreMostSpans (rows_of (found_of given.now))) }
-    ensures refused { RefusesOnlyWithout (AreMostSpans (rows_of (found_of given.now))) result }
+    ensures given { IfOk result (IsSpanLimitGiven (rows_of (found_of given.now))) }
+    ensures refused { RefusesOnlyWithout (IsSpanLimitGiven (rows_of (found_of given.now))) result }
 {
     read_limit(given, "spans", MAX_SPANS)
 }
 
 // Reads the limit on the cells of all plans of an operator. None if the option is missing.
 fn read_cells(given: &ArgMatches<'_>) -> Result<Option<u32>, WordsFault>
-    ensures given { IfOk result (AreMostCells (rows_of (found_of given.now))) }
-    ensures refused { RefusesOnlyWithout (AreMostCells (rows_of (found_of given.now))) result }
+    ensures given { IfOk result (IsCellLimitGiven (rows_of (found_of given.now))) }
+    ensures refused { RefusesOnlyWithout (IsCellLimitGiven (rows_of (found_of given.now))) result }
 {
     read_limit(given, "cells", MAX_TOTAL_CELLS)
 }
 
 // Reads the limit `id`: `Some` from 1 to `greatest`, None if the option is missing. `Value` for other values.
 fn read_limit(given: &ArgMatches<'_>, id: &str, greatest: u32) -> Result<Option<u32>, WordsFault>
-    ensures given { IfOk result (IsMostOf id.now greatest (rows_of (found_of given.now))) }
-    ensures refused { RefusesOnlyWithout (IsMostOf id.now greatest (rows_of (found_of given.now))) result }
+    ensures given { IfOk result (IsLimitGiven id.now greatest (rows_of (found_of given.now))) }
+    ensures refused { RefusesOnlyWithout (IsLimitGiven id.now greatest (rows_of (found_of given.now))) result }
 {
     let Some(limit) = read_u32_if_given(given, id) else {
         return Err(WordsFault::Value);
@@ -689,7 +689,7 @@ fn read_limit(given: &ArgMatches<'_>, id: &str, greatest: u32) -> Result<Option<
 
 // Whether `limit`, if there is one, is from 1 to `greatest`.
 fn is_valid_limit(limit: Option<u32>, greatest: u32) -> bool
-    ensures { IsTrue result ↔ IfSome limit (IsInRange min_most greatest) }
+    ensures { IsTrue result ↔ IfSome limit (IsInRange min_limit greatest) }
 {
     match limit {
         Some(limit) => (1..=greatest).contains(&limit),

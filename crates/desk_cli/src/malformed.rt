@@ -6,8 +6,8 @@ ghost use Rattle.clap.specs.Walk.{all_of, rows_of};
 ghost use Rattle.desk_rules.specs.Name.{is_operator_name};
 ghost use Rattle.desk_cli.specs.Equal.{priority_in};
 ghost use Rattle.desk_cli.specs.Grammar.{enrolment_by, enrolment_in};
-ghost use Rattle.desk_cli.specs.Malformed.{IsBadAtDesk, IsBadBy, IsBadOperator, IsFirstBad};
-ghost use Rattle.desk_cli.specs.Malformed.{IsMalformed, first_bad};
+ghost use Rattle.desk_cli.specs.Malformed.{IsMalformedAtDesk, IsMalformedListOrEnrolment, IsMalformedOperator, IsFirstMalformed};
+ghost use Rattle.desk_cli.specs.Malformed.{IsMalformed, first_malformed_enrolment};
 
 use crate::equal::{parse_permitted_option, parse_priority};
 use crate::line::{WordsFault, argument, match_words};
@@ -43,7 +43,7 @@ fn malformed_argument<'w>(
     name: &str,
     given: &ArgMatches<'w>,
 ) -> Option<(&'w str, &'static str)>
-    ensures { IfSome result (λ found. IsFirstBad name.now (rows_of (found_of given.now)) found.0.now) }
+    ensures { IfSome result (λ found. IsFirstMalformed name.now (rows_of (found_of given.now)) found.0.now) }
 {
     if name == "enrol" {
         return malformed_operator(given);
@@ -53,7 +53,7 @@ fn malformed_argument<'w>(
 
 // The name of `enrol` if it is malformed, else the ceiling if that is.
 fn malformed_operator<'w>(given: &ArgMatches<'w>) -> Option<(&'w str, &'static str)>
-    ensures { IfSome result (λ found. IsBadOperator (rows_of (found_of given.now)) found.0.now) }
+    ensures { IfSome result (λ found. IsMalformedOperator (rows_of (found_of given.now)) found.0.now) }
 {
     let name = argument(given, "NAME")?;
     if let Some(cause) = name_cause(name) {
@@ -68,7 +68,7 @@ fn malformed_operator<'w>(given: &ArgMatches<'w>) -> Option<(&'w str, &'static s
 
 // The first malformed argument of `play` or `serve`: the value of `--equal`, or an enrolment.
 fn malformed_at_desk<'w>(alloc: Global, given: &ArgMatches<'w>) -> Option<(&'w str, &'static str)>
-    ensures { IfSome result (λ found. IsBadAtDesk (rows_of (found_of given.now)) found.0.now) }
+    ensures { IfSome result (λ found. IsMalformedAtDesk (rows_of (found_of given.now)) found.0.now) }
 {
     let words = given.get_strs("enrolments").unwrap_or(&[]);
     malformed_list_or_enrolment(alloc, argument(given, "equal"), words)
@@ -81,7 +81,7 @@ fn malformed_list_or_enrolment<'w>(
     equal: Option<&'w str>,
     words: &[&'w str],
 ) -> Option<(&'w str, &'static str)>
-    ensures { IfSome result (λ found. IsBadBy (option_map (λ word. word.now) equal.entry)
+    ensures { IfSome result (λ found. IsMalformedListOrEnrolment (option_map (λ word. word.now) equal.entry)
         (map (λ word. word.now) words.now) found.0.now) }
 {
     let Some(word) = equal else {
@@ -96,7 +96,7 @@ fn malformed_list_or_enrolment<'w>(
 
 // The first of `words` that is no enrolment `NAME=CEILING`. None if all are.
 fn malformed_enrolment<'w>(words: &[&'w str]) -> Option<(&'w str, &'static str)>
-    ensures { IfSome result (λ found. first_bad (map (λ word. word.now) words.now) ≡ Some found.0.now) }
+    ensures { IfSome result (λ found. first_malformed_enrolment (map (λ word. word.now) words.now) ≡ Some found.0.now) }
 {
     for word in words {
         if let Some(cause) = enrolment_cause(word) {

@@ -9,9 +9,9 @@ ghost use Rattle.s2_cover.specs.Rectangles.{rect_or_fault};
 ghost use Rattle.s2_cover.specs.declared.spans.Span.{Span};
 ghost use Rattle.desk_cli.specs.Exits.{ending};
 ghost use Rattle.desk_cli.specs.Printing as spec;
-ghost use Rattle.desk_cli.specs.Printing.{IsCoverText, IsPrinted, IsPrinting, IsRectReported, IsShown, IsTextOf};
+ghost use Rattle.desk_cli.specs.Printing.{IsCoverText, IsPrinted, IsTokenOrCover, IsRectReported, IsShown, IsTextOf};
 ghost use Rattle.desk_cli.specs.Printing.{rect_parts, reported_of_token};
-ghost use Rattle.desk_cli.specs.Written.{HasBegun};
+ghost use Rattle.desk_cli.specs.Written.{IsPartlyWritten};
 ghost use Rattle.desk_cli.specs.declared.failure.ErrorCode.TheVariants.{Memory, Write};
 
 use crate::failure::{ErrorCode, ExitReport, report_exit};
@@ -33,7 +33,7 @@ pub fn print_line<W: Write, E: Write>(
     output: &mut W,
     errors: &mut E,
 ) -> ExitReport<E>
-    requires { IsPrinting line.now }
+    requires { IsTokenOrCover line.now }
     ensures { IsPrinted line.now (ending result (E.contents errors.old) (E.contents errors.new))
         (W.contents output.old) (W.contents output.new) }
 {
@@ -42,7 +42,7 @@ pub fn print_line<W: Write, E: Write>(
 
 // Prints the result of `line`, which is `token` or `cover`. An error if there is none, or a write fails.
 fn print_output<W: Write>(alloc: Global, line: &Line, output: &mut W) -> Result<(), ErrorCode>
-    requires { IsPrinting line.now }
+    requires { IsTokenOrCover line.now }
     ensures { IsShown line.now result (W.contents output.old) (W.contents output.new) }
 {
     let text = output_text(alloc, line)?;
@@ -54,7 +54,7 @@ fn print_output<W: Write>(alloc: Global, line: &Line, output: &mut W) -> Result<
 fn write_text<W: Write>(output: &mut W, text: &str) -> Result<(), ErrorCode>
     ensures ok { OnOk result (Appends (W.contents output.old) (W.contents output.new) text.now) }
     ensures err { IfErr result (λ f. (f ≡ Write)
-        × HasBegun text.now (W.contents output.old) (W.contents output.new)) }
+        × IsPartlyWritten text.now (W.contents output.old) (W.contents output.new)) }
 {
     write_whole(output, text.as_bytes())?;
     Ok(())
@@ -62,7 +62,7 @@ fn write_text<W: Write>(output: &mut W, text: &str) -> Result<(), ErrorCode>
 
 // The result of `line`, which is `token` or `cover`, as it is printed.
 fn output_text(alloc: Global, line: &Line) -> Result<String, ErrorCode>
-    requires { IsPrinting line.now }
+    requires { IsTokenOrCover line.now }
     ensures ok { IfOk result (λ text. IsTextOf line.now (Ok (string_bytes text))) }
     ensures err { IfErr result (λ f. (f ≡ Memory) ⊎ IsTextOf line.now (Err f)) }
 {

@@ -4,7 +4,7 @@ use Rattle.io_ends.specs.declared.writing.WriteError.{WriteError}
 use Rattle.desk_wire.specs.Passage.{Course}
 use Rattle.desk_cli.specs.declared.failure.ErrorCode.{ErrorCode}
 use Rattle.desk_cli.specs.declared.failure.ErrorCode.TheVariants as failure
-use Rattle.desk_host.specs.DamageReported.{IsBegun, IsLogCheckReported, ReportsLoss, admission_of, damage_line}
+use Rattle.desk_host.specs.DamageReported.{IsCheckReported, IsLogCheckReported, ReportsLoss, admission_of, damage_line}
 use Rattle.host_files.specs.Reporting.{IsWrittenUpTo}
 use Rattle.desk_host.specs.declared.damage.LogCheck.{LogCheck}
 use Rattle.desk_host.specs.declared.damage.LogCheckError.{LogCheckError}
@@ -20,14 +20,14 @@ loss_reported path frame commits (Some cut) writes off =
     record { frame = frame; commits = commits; reported = inr (cut.fault, off) }
 
 admits_loss : (copied : Bool) (path : List ℕ) (writes : Course (Option (List ℕ))) → ReportsLoss path writes
-    → IsBegun copied path (if copied then Ok true else Err failure.DamagedLog) writes
+    → IsCheckReported copied path (if copied then Ok true else Err failure.DamagedLog) writes
 admits_loss true path writes reported = (refl, reported)
 admits_loss false path writes reported = (refl, reported)
 
 -- what is reported by what came of a look at a log
 admits : {E : Type 0} (copied : Bool) (path : List ℕ) (look : Result (LogCheck E) LogCheckError)
     (writes : Course (Option (List ℕ))) → IsLogCheckReported copied path look writes
-    → IsBegun copied path (admission_of look) writes
+    → IsCheckReported copied path (admission_of look) writes
 admits copied path (Ok look) writes (inl it) = rw (it.0, it.1) it.2
 admits copied path (Ok look) writes (inr it) = rw (it.0, it.1) (admits_loss copied path writes it.2)
 admits copied path (Err OutOfMemory) writes same = same
@@ -35,6 +35,6 @@ admits copied path (Err (Unread fault)) writes same = inl same
 
 pub begins : {E : Type 0} (copied : Bool) (path : List ℕ) (look : Result (LogCheck E) LogCheckError)
     (result : Result Bool ErrorCode) (writes : Course (Option (List ℕ))) → IsLogCheckReported copied path look writes
-    → result ≡ admission_of look → IsBegun copied path result writes
+    → result ≡ admission_of look → IsCheckReported copied path result writes
 begins copied path look result writes reported is =
-    subst (λ r. IsBegun copied path r writes) (sym is) (admits copied path look writes reported)
+    subst (λ r. IsCheckReported copied path r writes) (sym is) (admits copied path look writes reported)

@@ -23,40 +23,40 @@ unread_by kind.PermissionDenied = Some (codes "no right to read it")
 unread_by _ = Some (codes "it can't be read")
 
 -- the text about a journal that can't be read or written; None if memory ran out
-abbrev pub unkept_text : JournalError → Option (List ℕ)
-unkept_text unkept.Memory = None
-unkept_text (unkept.Cause cause) = Some cause.now
+abbrev pub journal_error_text : JournalError → Option (List ℕ)
+journal_error_text unkept.Memory = None
+journal_error_text (unkept.Cause cause) = Some cause.now
 
 -- that text, by the kind of the error of the operating system, and by the fault in reading the end of a
 -- journal
-abbrev pub unkept_by : ErrorKind → Option (List ℕ)
-unkept_by kind.OutOfMemory = None
-unkept_by kind.NotFound = Some (codes "no such folder")
-unkept_by kind.NotADirectory = Some (codes "no folder")
-unkept_by kind.PermissionDenied = Some (codes "no right to it")
-unkept_by kind.ReadOnlyFilesystem = Some (codes "a read-only file system")
-unkept_by kind.StorageFull = Some (codes "a full disk")
-unkept_by kind.QuotaExceeded = Some (codes "a full disk")
-unkept_by kind.AlreadyExists = Some (codes "it is there already")
-unkept_by _ = Some (codes "it can't be read or written")
+abbrev pub journal_error_by : ErrorKind → Option (List ℕ)
+journal_error_by kind.OutOfMemory = None
+journal_error_by kind.NotFound = Some (codes "no such folder")
+journal_error_by kind.NotADirectory = Some (codes "no folder")
+journal_error_by kind.PermissionDenied = Some (codes "no right to it")
+journal_error_by kind.ReadOnlyFilesystem = Some (codes "a read-only file system")
+journal_error_by kind.StorageFull = Some (codes "a full disk")
+journal_error_by kind.QuotaExceeded = Some (codes "a full disk")
+journal_error_by kind.AlreadyExists = Some (codes "it is there already")
+journal_error_by _ = Some (codes "it can't be read or written")
 
-abbrev pub unkept_tail : TailFault → Option (List ℕ)
-unkept_tail tail.OutOfMemory = None
-unkept_tail tail.Read = Some (codes "its last record can't be read")
-unkept_tail tail.NoRecord = Some (codes "its last record is none of a desk")
+abbrev pub tail_error_text : TailFault → Option (List ℕ)
+tail_error_text tail.OutOfMemory = None
+tail_error_text tail.Read = Some (codes "its last record can't be read")
+tail_error_text tail.NoRecord = Some (codes "its last record is none of a desk")
 
 -- an error in reading or writing a journal has the text for some kind of error of the operating system
-pub record IsUnkept (fault : JournalError) : Type 0 where
+pub record IsJournalError (fault : JournalError) : Type 0 where
   pub kind : ErrorKind
-  pub text : unkept_text fault ≡ unkept_by kind
+  pub text : journal_error_text fault ≡ journal_error_by kind
 
 -- an error in reading the end of a journal with these bytes, if they are known: it has the text for a fault
 -- that they have
 pub record IsTailFault (bytes : Option (List ℕ)) (fault : JournalError) : Type 0 where
   pub tail : TailFault
   pub has : HasNoTail bytes tail
-  pub text : unkept_text fault ≡ unkept_tail tail
+  pub text : journal_error_text fault ≡ tail_error_text tail
 
 -- an error in opening a journal or reading its end, whatever bytes it has
-abbrev pub IsTailUnread : JournalError → Type 0
-IsTailUnread fault = IsUnkept fault ⊎ ((bytes : Option (List ℕ)) × IsTailFault bytes fault)
+abbrev pub IsTailError : JournalError → Type 0
+IsTailError fault = IsJournalError fault ⊎ ((bytes : Option (List ℕ)) × IsTailFault bytes fault)

@@ -11,7 +11,7 @@ use Rattle.desk_program.specs.Outside.{bytes_written}
 use Rattle.desk_cli.specs.declared.failure.ErrorCode.{ErrorCode}
 use Rattle.desk_cli.specs.declared.failure.ErrorCode.TheVariants as failure
 use Rattle.db_file.specs.Damage.{IsDamaged}
-use Rattle.db_file.specs.Reads.{IsUnjudged}
+use Rattle.db_file.specs.Reads.{IsUnchecked}
 use Rattle.host_files.specs.Reporting.{IsWrittenIfRoom, IsWrittenOnce, IsWrittenUpTo, line_of}
 use Rattle.desk_host.specs.declared.logs.FoundLog.{FoundLog}
 use Rattle.desk_host.specs.declared.logs.FoundLog.TheVariants as found
@@ -41,19 +41,19 @@ IsUndamaged log writes =
 -- The result of the check of a WAL. If the WAL is not damaged, its file is admitted, and nothing is
 -- reported. If it is damaged, the file is admitted only if it is copied, and the damage is reported. If the
 -- check failed, nothing is reported.
-abbrev pub IsLookedAt :
+abbrev pub IsLogCheckOf :
     {E : Type 0} → Bool → List ℕ → List ℕ → Result (LogCheck E) LogCheckError → Course (Option (List ℕ))
     → Type 0
-IsLookedAt copied path log (Ok look) writes =
+IsLogCheckOf copied path log (Ok look) writes =
     ((look.is_admitted ≡ true) × (look.is_damaged ≡ false) × IsUndamaged log writes)
     ⊎ ((look.is_admitted ≡ copied) × (look.is_damaged ≡ true) × IsLossReported path log look.cut writes)
-IsLookedAt copied path log (Err it) writes = writes.after ≡ writes.before
+IsLogCheckOf copied path log (Err it) writes = writes.after ≡ writes.before
 
 -- why the check of a WAL failed: memory ran out for the line that reports its damage, or it can't be read
 abbrev pub HasLogCheckCause : Option (List ℕ) → LogCheckError → Type 0
 HasLogCheckCause log unlooked.OutOfMemory =
     IfSome log (λ bytes. (frame commits : ℕ) × IsDamaged bytes frame commits)
-HasLogCheckCause log (unlooked.Unread fault) = IsUnjudged log fault
+HasLogCheckCause log (unlooked.Unread fault) = IsUnchecked log fault
 
 -- by the result of the check of a WAL: whether the WAL of an admitted file is damaged; the error code if
 -- the file is refused
@@ -70,7 +70,7 @@ alone_text = codes "its log is there without it: was it moved or removed while a
 pub record HasLooked (E : Type 0) (copied : Bool) (path log : List ℕ) (result : Result Bool ErrorCode)
     (writes : Course (Option (List ℕ))) : Type 0 where
   pub look : Result (LogCheck E) LogCheckError
-  pub looked : IsLookedAt copied path log look writes
+  pub looked : IsLogCheckOf copied path log look writes
   pub is : result ≡ admission_of look
 
 -- ---- what is reported, whatever bytes the WAL has
@@ -91,22 +91,22 @@ IsLogCheckReported copied path (Err it) writes = writes.after ≡ writes.before
 
 -- what is reported, by the result of `check_before`: damage if the WAL is damaged; with `Store`, that a WAL
 -- is there without its file, or nothing; else nothing
-abbrev pub IsBegun : Bool → List ℕ → Result Bool ErrorCode → Course (Option (List ℕ)) → Type 0
-IsBegun copied path (Ok false) writes = writes.after ≡ writes.before
-IsBegun copied path (Ok true) writes = (copied ≡ true) × ReportsLoss path writes
-IsBegun copied path (Err failure.DamagedLog) writes = (copied ≡ false) × ReportsLoss path writes
-IsBegun copied path (Err failure.Memory) writes = writes.after ≡ writes.before
-IsBegun copied path (Err failure.Store) writes = IsWrittenIfRoom (line_of path alone_text) writes
-IsBegun copied path (Err it) writes = ⊥
+abbrev pub IsCheckReported : Bool → List ℕ → Result Bool ErrorCode → Course (Option (List ℕ)) → Type 0
+IsCheckReported copied path (Ok false) writes = writes.after ≡ writes.before
+IsCheckReported copied path (Ok true) writes = (copied ≡ true) × ReportsLoss path writes
+IsCheckReported copied path (Err failure.DamagedLog) writes = (copied ≡ false) × ReportsLoss path writes
+IsCheckReported copied path (Err failure.Memory) writes = writes.after ≡ writes.before
+IsCheckReported copied path (Err failure.Store) writes = IsWrittenIfRoom (line_of path alone_text) writes
+IsCheckReported copied path (Err it) writes = ⊥
 
 -- the result for the WAL that was found: a WAL without its file is refused and reported; a WAL that may be
 -- damaged is checked; else nothing is done
-abbrev pub IsJudged :
+abbrev pub IsFoundChecked :
     {R E : Type 0} → read.Ghosts R → write.Ghosts E → Bool → List ℕ → FoundLog R → Result Bool ErrorCode
     → E → E → Type 0
-IsJudged r w copied path found.Alone result before now =
+IsFoundChecked r w copied path found.Alone result before now =
     (result ≡ Err failure.Store) × IsWrittenIfRoom (line_of path alone_text) (bytes_written w before now)
-IsJudged r w copied path found.Nothing result before now =
+IsFoundChecked r w copied path found.Nothing result before now =
     (result ≡ Ok false) × (w.contents now ≡ w.contents before)
-IsJudged {R} {E} r w copied path (found.Log log) result before now =
+IsFoundChecked {R} {E} r w copied path (found.Log log) result before now =
     IfSome (r.remaining log) (λ bytes. HasLooked E copied path bytes result (bytes_written w before now))

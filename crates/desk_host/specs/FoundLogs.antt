@@ -41,9 +41,9 @@ unreached_by kind.OutOfMemory = Err failure.Memory
 unreached_by _ = Ok None
 
 -- the value that was found; None if it can't be reached; `Memory` if memory ran out
-abbrev pub if_there : {T : Type 0} → Result T ErrorKind → Result (Option T) ErrorCode
-if_there (Ok it) = Ok (Some it)
-if_there (Err kind) = unreached_by kind
+abbrev pub if_reachable : {T : Type 0} → Result T ErrorKind → Result (Option T) ErrorCode
+if_reachable (Ok it) = Ok (Some it)
+if_reachable (Err kind) = unreached_by kind
 
 -- a WAL of so many bytes is long enough to have a commit, or to be damaged
 abbrev pub may_have_commit : ℕ → Bool
@@ -73,17 +73,17 @@ abbrev pub if_opened : Answers → List ℕ → Bool → Option (List ℕ)
 if_opened it log true = opened_by log (it.unread log)
 if_opened it log false = None
 
-abbrev pub judged_by : Answers → List ℕ → Result (List ℕ) ErrorKind → Option (List ℕ)
-judged_by it path (Ok real) = if_opened it (log_of real) (needs_check it path real (log_of real))
-judged_by it path (Err error) = None
+abbrev pub log_to_check_by : Answers → List ℕ → Result (List ℕ) ErrorKind → Option (List ℕ)
+log_to_check_by it path (Ok real) = if_opened it (log_of real) (needs_check it path real (log_of real))
+log_to_check_by it path (Err error) = None
 
-abbrev pub judged_log : Answers → List ℕ → Option (List ℕ)
-judged_log it path = judged_by it path (it.real path)
+abbrev pub log_to_check : Answers → List ℕ → Option (List ℕ)
+log_to_check it path = log_to_check_by it path (it.real path)
 
 -- the result of looking for that WAL: it is open, or there is none
 abbrev pub IsLogBeside : {R : Type 0} → read.Ghosts R → Answers → List ℕ → Option R → Type 0
-IsLogBeside r it path None = judged_log it path ≡ None
-IsLogBeside r it path (Some file) = IsSomeAnd (judged_log it path) (λ log. r.remaining file ≡ it.bytes log)
+IsLogBeside r it path None = log_to_check it path ≡ None
+IsLogBeside r it path (Some file) = IsSomeAnd (log_to_check it path) (λ log. r.remaining file ≡ it.bytes log)
 
 -- a WAL that may have a commit is there without its file
 abbrev pub is_alone : Answers → List ℕ → Bool

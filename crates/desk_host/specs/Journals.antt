@@ -71,11 +71,11 @@ pub record IsJournalAt (folder : List ℕ) (number : ℕ) (path : List ℕ) : Ty
   pub is : path ≡ path_in folder name
 
 -- the journal with the greatest number so far is one of the folder; so is the journal that is returned
-abbrev pub IsGreatestIn : List ℕ → Greatest → Type 0
-IsGreatestIn folder it = IsJournalAt folder it.number (string_bytes it.path)
+abbrev pub IsJournalIn : List ℕ → Greatest → Type 0
+IsJournalIn folder it = IsJournalAt folder it.number (string_bytes it.path)
 
-abbrev pub IsFoundIn : List ℕ → JournalFile → Type 0
-IsFoundIn folder it = IsJournalAt folder it.number (string_bytes it.path)
+abbrev pub IsJournalFileIn : List ℕ → JournalFile → Type 0
+IsJournalFileIn folder it = IsJournalAt folder it.number (string_bytes it.path)
 
 -- a number is above the greatest so far, if there is one
 abbrev pub is_above : Option Greatest → ℕ → Bool

@@ -100,7 +100,7 @@ HasUnreadCause path files (Cause text) = IsFileUnread path files
 -- What one look at the file at a path returns. Either its stamp is the one that was last seen: no
 -- enrolments. Or it is read: the enrolments of its text, and its stamp is now seen. Or it can't be read: no
 -- enrolments, and no stamp is seen any more.
-pub record AreNewsAt (path : List ℕ) (seen : Course (Option Stamp))
+pub record IsLookResultAt (path : List ℕ) (seen : Course (Option Stamp))
     (files : Course (Option (List Asking))) (newly_enrolled : List Enrolment) : Type 0
   where
     pub stamp : Option Stamp
@@ -112,7 +112,7 @@ pub record AreNewsAt (path : List ℕ) (seen : Course (Option Stamp))
         ⊎ (IsFileUnread path (course between files.after) × (seen.after ≡ None) × (newly_enrolled ≡ [])))
 
 -- the same, by the path of the file, if there is one; without a file there are no enrolments
-abbrev pub AreNews :
+abbrev pub IsLookResult :
     Option (List ℕ) → Course (Option Stamp) → Course (Option (List Asking)) → List Enrolment → Type 0
-AreNews None seen files newly_enrolled = (newly_enrolled ≡ []) × (files.after ≡ files.before)
-AreNews (Some path) seen files newly_enrolled = AreNewsAt path seen files newly_enrolled
+IsLookResult None seen files newly_enrolled = (newly_enrolled ≡ []) × (files.after ≡ files.before)
+IsLookResult (Some path) seen files newly_enrolled = IsLookResultAt path seen files newly_enrolled

@@ -8,7 +8,7 @@ ghost use Rattle.db_file.specs.Commits.{HasCommit};
 ghost use Rattle.db_file.specs.Damage.{IsDamaged};
 ghost use Rattle.desk_host.specs.DamageReported as spec;
 ghost use Rattle.desk_host.specs.FoundLogs as logs;
-ghost use Rattle.desk_host.specs.DamageReported.{HasLogCheckCause, IsBegun, IsJudged, IsLogCheckReported, IsLookedAt};
+ghost use Rattle.desk_host.specs.DamageReported.{HasLogCheckCause, IsCheckReported, IsFoundChecked, IsLogCheckReported, IsLogCheckOf};
 ghost use Rattle.host_files.specs.Openings.{OpensAtMost};
 ghost use Rattle.host_files.specs.Reporting.{IsWrittenUpTo};
 
@@ -16,7 +16,7 @@ use crate::logs::{FoundLog, find_log};
 use db_file::{WalError, WalState, check_wal, commits_are_long, damaged_is_long};
 use desk_cli::{Database, ErrorCode};
 use host_files::files::{HostFiles, LocalHost};
-use host_files::reporting::{report_line, report_of};
+use host_files::reporting::{report_line, report_text};
 use io_ends::WriteError;
 use std::alloc::{AllocError, Global};
 use std::io::{Read, Write};
@@ -78,7 +78,7 @@ pub fn check_before<E: Write>(
     errors: &mut E,
 ) -> Result<bool, ErrorCode>
     ensures file { IfSome (file_of database.now) (λ path.
-        IsBegun is_copied path result (bytes_written E.Write errors.old errors.new)) }
+        IsCheckReported is_copied path result (bytes_written E.Write errors.old errors.new)) }
     ensures none { IfNone (file_of database.now)
         ((result ≡ Ok false) × (E.contents errors.new ≡ E.contents errors.old)) }
 {
@@ -96,7 +96,7 @@ fn check_beside<F: HostFiles, E: Write>(
     is_copied: bool,
     errors: &mut E,
 ) -> Result<bool, ErrorCode>
-    ensures begun { IsBegun is_copied path.now result (bytes_written E.Write errors.old errors.new) }
+    ensures begun { IsCheckReported is_copied path.now result (bytes_written E.Write errors.old errors.new) }
     ensures opens { OpensAtMost F.HostFiles path.now files.old files.new }
 {
     let found = find_log(alloc, files, path)?;
@@ -114,12 +114,12 @@ fn check_found<R: Read + Drop, E: Write>(
     found: FoundLog<R>,
     errors: &mut E,
 ) -> Result<bool, ErrorCode>
-    ensures judged { IsJudged R.Read E.Write is_copied path.now found result errors.old errors.new }
-    ensures begun { IsBegun is_copied path.now result (bytes_written E.Write errors.old errors.new) }
+    ensures judged { IsFoundChecked R.Read E.Write is_copied path.now found result errors.old errors.new }
+    ensures begun { IsCheckReported is_copied path.now result (bytes_written E.Write errors.old errors.new) }
 {
     match found {
         FoundLog::Alone => {
-            report_of(alloc, path, LOG_ALONE, errors);
+            report_text(alloc, path, LOG_ALONE, errors);
             Err(ErrorCode::Store)
         }
         FoundLog::Nothing => Ok(false),
@@ -157,7 +157,7 @@ pub fn check_log<R: Read, E: Write>(
     log: &mut R,
     errors: &mut E,
 ) -> Result<LogCheck<E>, LogCheckError>
-    ensures looked { IfSome (R.remaining log.old) (λ bytes. IsLookedAt is_copied path.now bytes result
+    ensures looked { IfSome (R.remaining log.old) (λ bytes. IsLogCheckOf is_copied path.now bytes result
         (bytes_written E.Write errors.old errors.new)) }
     ensures cause { IfErr result (HasLogCheckCause (R.remaining log.old)) }
     ensures reported { IsLogCheckReported is_copied path.now result

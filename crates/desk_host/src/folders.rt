@@ -6,9 +6,9 @@ ghost use Rattle.std.specs.Prelude.{ℕ, string_bytes, true};
 ghost use Rattle.std.specs.Char.{is_ascii_digit};
 ghost use Rattle.std.specs.List.{list_all};
 ghost use Rattle.desk_recording.specs.Tail.{IsTail, tail_shown};
-ghost use Rattle.desk_host.specs.Causes.{IsTailFault, IsTailUnread, IsUnkept};
+ghost use Rattle.desk_host.specs.Causes.{IsTailFault, IsTailError, IsJournalError};
 ghost use Rattle.desk_host.specs.Journals as spec;
-ghost use Rattle.desk_host.specs.Journals.{IsFoundIn, IsGreatestIn, IsNextAt, IsNumberIn};
+ghost use Rattle.desk_host.specs.Journals.{IsJournalFileIn, IsJournalIn, IsNextAt, IsNumberIn};
 
 use desk_recording::{Tail, TailEnd, TailFault, read_tail};
 use host_files::naming::{OWNER_ALONE, READ_ONLY, TAKEN, sync_folder};
@@ -45,9 +45,9 @@ impl From<AllocError> for JournalError {
 
 impl From<TailFault> for JournalError {
     ghost use Rattle.std.specs.Prelude.{◌≡◌};
-    ghost use Rattle.desk_host.specs.Causes.{unkept_tail, unkept_text};
+    ghost use Rattle.desk_host.specs.Causes.{tail_error_text, journal_error_text};
 
-    ghost from_gives = { λ fault it. unkept_text it ≡ unkept_tail fault };
+    ghost from_gives = { λ fault it. journal_error_text it ≡ tail_error_text fault };
 
     fn from(fault: TailFault) -> JournalError {
         match fault {
@@ -61,9 +61,9 @@ impl From<TailFault> for JournalError {
 impl From<io::Error> for JournalError {
     ghost use Rattle.std.specs.Prelude.{◌≡◌};
     ghost use Rattle.std.specs.IoError.{error_kind};
-    ghost use Rattle.desk_host.specs.Causes.{unkept_by, unkept_text};
+    ghost use Rattle.desk_host.specs.Causes.{journal_error_by, journal_error_text};
 
-    ghost from_gives = { λ error it. unkept_text it ≡ unkept_by (error_kind error) };
+    ghost from_gives = { λ error it. journal_error_text it ≡ journal_error_by (error_kind error) };
 
     fn from(error: io::Error) -> JournalError {
         match error.kind() {
@@ -103,10 +103,10 @@ struct Greatest {
 /// # Errors
 ///
 /// The folder can't be read, the size of the journal can't be found out, or memory runs out.
-#[tactic(auto, using(crate::proofs::FaultLemmas::memory_unkept))]
-pub fn last_record(rt: &HostRuntime, folder: &str) -> Result<Option<JournalFile>, JournalError>
-    ensures found { IfOk result (λ found. IfSome found (IsFoundIn folder.now)) }
-    ensures cause { IfErr result IsUnkept }
+#[tactic(auto, using(crate::proofs::FaultLemmas::memory_journal_error))]
+pub fn last_journal(rt: &HostRuntime, folder: &str) -> Result<Option<JournalFile>, JournalError>
+    ensures found { IfOk result (λ found. IfSome found (IsJournalFileIn folder.now)) }
+    ensures cause { IfErr result IsJournalError }
 {
     let mut greatest = None;
     for entry in fs::read_dir(rt, folder)? {
@@ -129,10 +129,10 @@ fn greater_journal(
     name: &str,
 ) -> Result<Option<Greatest>, AllocError>
     ensures next { IfOk result (IsNextAt folder.now name.now greatest) }
-    ensures in_folder { IfSome greatest (IsGreatestIn folder.now)
-        → IfOk result (λ now. IfSome now (IsGreatestIn folder.now)) }
+    ensures in_folder { IfSome greatest (IsJournalIn folder.now)
+        → IfOk result (λ now. IfSome now (IsJournalIn folder.now)) }
 {
-    let Some(number) = record_number(name) else {
+    let Some(number) = journal_number(name) else {
         return Ok(greatest);
     };
     if !is_above(&greatest, number) {
@@ -154,7 +154,7 @@ fn is_above(greatest: &Option<Greatest>, number: u64) -> bool
 
 // The number in the name of a journal, `NUMBER-SECOND.record`, where NUMBER has ten digits or more. `None`
 // for any other name, and for a number of more than 64 bits.
-fn record_number(name: &str) -> Option<u64>
+fn journal_number(name: &str) -> Option<u64>
     ensures { IsNumberIn name.now result }
 {
     match stem_of(name) {
@@ -241,7 +241,7 @@ fn path_in(alloc: Global, folder: &str, name: &str) -> Result<String, AllocError
 ///
 /// The journal can't be read, its last record is none of a desk, or memory runs out.
 pub fn tail_of(rt: &HostRuntime, journal: &JournalFile) -> Result<(Tail, TailEnd), JournalError>
-    ensures { IfErr result IsTailUnread }
+    ensures { IfErr result IsTailError }
 {
     tail_in(rt.alloc(), File::open(rt, &journal.path)?)
 }
@@ -263,7 +263,7 @@ fn tail_in<R: Read + Drop>(alloc: Global, file: R) -> Result<(Tail, TailEnd), Jo
 ///
 /// A file can't be read or written, or memory runs out.
 pub fn move_rest(rt: &HostRuntime, journal: &JournalFile, size: u64) -> Result<(), JournalError>
-    ensures { IfErr result IsUnkept }
+    ensures { IfErr result IsJournalError }
 {
     let mut file = OpenOptions::new()
         .read(true)
@@ -280,9 +280,9 @@ pub fn move_rest(rt: &HostRuntime, journal: &JournalFile, size: u64) -> Result<(
 }
 
 // Writes `rest` to the file `NAME.rest` beside the journal at `path`, and syncs it. An older one is replaced.
-#[tactic(auto, using(crate::proofs::FaultLemmas::memory_unkept))]
+#[tactic(auto, using(crate::proofs::FaultLemmas::memory_journal_error))]
 fn write_rest(rt: &HostRuntime, path: &str, rest: &[u8]) -> Result<(), JournalError>
-    ensures { IfErr result IsUnkept }
+    ensures { IfErr result IsJournalError }
 {
     let path = format!(in rt.alloc(); "{path}.rest")?;
     let mut file = OpenOptions::new()
@@ -302,9 +302,9 @@ fn write_rest(rt: &HostRuntime, path: &str, rest: &[u8]) -> Result<(), JournalEr
 /// # Errors
 ///
 /// The file can't be made, or memory runs out.
-#[tactic(auto, using(crate::proofs::FaultLemmas::memory_unkept))]
+#[tactic(auto, using(crate::proofs::FaultLemmas::memory_journal_error))]
 pub fn make_part(rt: &HostRuntime, folder: &str, number: u64) -> Result<File, JournalError>
-    ensures { IfErr result IsUnkept }
+    ensures { IfErr result IsJournalError }
 {
     let part = part_of(rt.alloc(), folder, number)?;
     // left by a command that was interrupted
@@ -323,14 +323,14 @@ pub fn make_part(rt: &HostRuntime, folder: &str, number: u64) -> Result<File, Jo
 /// # Errors
 ///
 /// The file can't be renamed, the folder can't be synced, or memory runs out.
-#[tactic(auto, using(crate::proofs::FaultLemmas::memory_unkept))]
+#[tactic(auto, using(crate::proofs::FaultLemmas::memory_journal_error))]
 pub fn name_part(
     rt: &HostRuntime,
     folder: &str,
     number: u64,
     second: u64,
 ) -> Result<(), JournalError>
-    ensures { IfErr result IsUnkept }
+    ensures { IfErr result IsJournalError }
 {
     let part = part_of(rt.alloc(), folder, number)?;
     let name = name_of(rt.alloc(), folder, number, second)?;

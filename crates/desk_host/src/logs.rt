@@ -74,14 +74,14 @@ fn log_beside<F: HostFiles>(
     ensures fault { IfErr result (λ f. f ≡ Memory) }
     ensures opens { OpensAtMost F.HostFiles path.now files.old files.new }
 {
-    let Some(real) = if_there(files.real(path))? else {
+    let Some(real) = if_reachable(files.real(path))? else {
         return Ok(None);
     };
     let name = name_with(alloc, &real, "-wal")?;
     if !needs_check(files, path, &real, &name) {
         return Ok(None);
     }
-    if_there(files.open(&name))
+    if_reachable(files.open(&name))
 }
 
 // Whether the WAL `log` of the file at `path` has to be checked: it is long enough to be damaged, the file
@@ -141,8 +141,8 @@ fn size_of(found: Result<Found, ErrorKind>) -> u64
 
 // The value `found`; `None` if it can't be reached, which opening the database file reports later. Fails with
 // `Memory` if memory ran out.
-fn if_there<T: Drop>(found: Result<T, ErrorKind>) -> Result<Option<T>, ErrorCode>
-    ensures { result ≡ spec.if_there found }
+fn if_reachable<T: Drop>(found: Result<T, ErrorKind>) -> Result<Option<T>, ErrorCode>
+    ensures { result ≡ spec.if_reachable found }
 {
     match found {
         Ok(it) => Ok(Some(it)),

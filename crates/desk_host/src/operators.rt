@@ -12,7 +12,7 @@ ghost use Rattle.host_files.specs.Answers.{by_ok};
 ghost use Rattle.desk_host.specs.Causes as cause;
 ghost use Rattle.desk_host.specs.Causes.{unread_by, unread_text};
 ghost use Rattle.desk_host.specs.Operators as spec;
-ghost use Rattle.desk_host.specs.Operators.{AreEnrolmentsRead, AreNews, Asking, HasUnreadCause, IsStampOf, Read, Stamped, ok_of};
+ghost use Rattle.desk_host.specs.Operators.{AreEnrolmentsRead, IsLookResult, Asking, HasUnreadCause, IsStampOf, Read, Stamped, ok_of};
 ghost use Rattle.desk_host.specs.Operators.{IsUnreadIf, IsTextFault, IsTextOf, IsUnstamped};
 ghost use Rattle.desk_host.specs.ReportedLines as reported;
 ghost use Rattle.desk_host.specs.ReportedLines.{AreReported};
@@ -21,7 +21,7 @@ ghost use Rattle.host_files.specs.Reporting.{IsWrittenIfRoom, Reports, line_of};
 use desk_cli::{Enrolment, ErrorCode, lines_of, parse_enrolment_line, parse_enrolment_lines};
 use desk_program::EnrolmentSource;
 use host_files::files::{HostFiles, LocalHost};
-use host_files::reporting::report_of;
+use host_files::reporting::report_text;
 use std::alloc::{AllocError, Global};
 use std::fs::{self, File, Metadata};
 use std::io::{self, ErrorKind, Read, Write};
@@ -165,7 +165,7 @@ pub fn operators_of<'r, F: TextFiles + Drop>(
         Ok(_) => Ok(file),
         Err(FileReadError::Memory) => Err(ErrorCode::Memory),
         Err(FileReadError::Cause(cause)) => {
-            report_of(rt.alloc(), path, cause, &mut rt.stderr());
+            report_text(rt.alloc(), path, cause, &mut rt.stderr());
             Err(ErrorCode::Read)
         }
     }
@@ -201,7 +201,7 @@ impl<F: TextFiles + Drop> EnrolmentFile<'_, F> {
     {
         if self.reported != Some(cause) {
             self.reported = Some(cause);
-            report_of(self.rt.alloc(), path, cause, &mut self.rt.stderr());
+            report_text(self.rt.alloc(), path, cause, &mut self.rt.stderr());
         }
     }
 }
@@ -210,12 +210,12 @@ impl<F: TextFiles + Drop> EnrolmentSource for EnrolmentFile<'_, F> {
     // The enrolments in the file, if it was changed since they were last returned; else none. There are none
     // either without a file. A file that can't be read is reported, once for each cause, and is read again at
     // the next look. Fails if memory ran out.
-    #[tactic(auto, using(crate::proofs::OperatorLemmas::no_news))]
+    #[tactic(auto, using(crate::proofs::OperatorLemmas::nothing_enrolled))]
     fn look(&mut self, alloc: Global) -> Result<Vec<Enrolment>, ErrorCode>
         ensures small { IfOk result (λ newly_enrolled. AreEnrolments newly_enrolled.items) }
         ensures fault { IfErr result (λ f. f ≡ ErrorCode.Memory) }
         ensures newly_enrolled { IfOk result (λ newly_enrolled.
-            AreNews (option_map (λ path. path.now) self.old.path) (course self.old.seen self.new.seen)
+            IsLookResult (option_map (λ path. path.now) self.old.path) (course self.old.seen self.new.seen)
             (course (F.asked self.old.files) (F.asked self.new.files))
             newly_enrolled.items) }
     {
@@ -288,7 +288,7 @@ fn text_in<R: Read + Drop>(alloc: Global, file: R) -> Result<String, FileReadErr
 }
 
 // The text of the bytes that were read, unless they are more than `MAX_BYTES`. Invalid UTF-8 is replaced.
-#[tactic(auto, using(crate::proofs::FaultLemmas::memory_unread))]
+#[tactic(auto, using(crate::proofs::FaultLemmas::memory_read_error))]
 fn text_of(alloc: Global, bytes: &[u8]) -> Result<String, FileReadError>
     ensures text { IsTextOf bytes.now (by_ok string_bytes result) }
     ensures cause { IfErr result IsTextFault }
@@ -412,7 +412,7 @@ fn report_line<E: Write>(
     ensures appended { Reports (bytes_written E.Write errors.old errors.new) }
 {
     let text = malformed_text(alloc, number)?;
-    report_of(alloc, path, &text, errors);
+    report_text(alloc, path, &text, errors);
     Ok(())
 }
 
@@ -438,7 +438,7 @@ fn report_more<E: Write>(
     ensures appended { Reports (bytes_written E.Write errors.old errors.new) }
 {
     let text = more_malformed_text(alloc, count)?;
-    report_of(alloc, path, &text, errors);
+    report_text(alloc, path, &text, errors);
     Ok(())
 }
 

@@ -5,13 +5,13 @@ ghost use Rattle.desk_cli.specs.Exits.{IsLineBreakdown};
 ghost use Rattle.desk_program.specs.Outside.{bytes_written};
 ghost use Rattle.host_files.specs.Naming.{Follows};
 ghost use Rattle.host_files.specs.FolderSteps.{steps_of};
-ghost use Rattle.desk_host.specs.Scratch.{AreRemoved, AreTwins, IsUntwinned, making, scratch_of};
+ghost use Rattle.desk_host.specs.Scratch.{AreRemoved, AreScratchPaths, IsNotCopied, make_steps, scratch_of};
 ghost use Rattle.host_files.specs.Reporting.{Reports};
 
 use desk_cli::ErrorCode;
 use host_files::naming::{Folder, name_with};
 use host_files::pairs::ScratchFault;
-use host_files::reporting::report_of;
+use host_files::reporting::report_text;
 use std::alloc::{AllocError, Global};
 use std::io::Write;
 
@@ -27,7 +27,7 @@ pub struct ScratchCopy {
 impl ScratchCopy {
     // The paths of the scratch copy beside the file at a path, and of its WAL.
     fn beside(alloc: Global, path: &str) -> Result<ScratchCopy, AllocError>
-        ensures { IfOk result (AreTwins path.now) }
+        ensures { IfOk result (AreScratchPaths path.now) }
     {
         let scratch = name_with(alloc, path, ".twin")?;
         Ok(ScratchCopy {
@@ -52,9 +52,9 @@ pub fn make_scratch<P: Folder, E: Write>(
     is_mended: bool,
     errors: &mut E,
 ) -> Result<ScratchCopy, ErrorCode>
-    ensures made { IfOk result (λ scratch. AreTwins beside.now scratch × Follows
-        (steps_of P.Folder folder.old folder.new) (making source.now (scratch_of beside.now) is_mended)) }
-    ensures unmade { IfErr result (IsUntwinned (scratch_of beside.now)
+    ensures made { IfOk result (λ scratch. AreScratchPaths beside.now scratch × Follows
+        (steps_of P.Folder folder.old folder.new) (make_steps source.now (scratch_of beside.now) is_mended)) }
+    ensures unmade { IfErr result (IsNotCopied (scratch_of beside.now)
         (steps_of P.Folder folder.old folder.new)) }
     ensures failure { IfErr result IsLineBreakdown }
     ensures quiet { OnOk result (E.contents errors.new ≡ E.contents errors.old) }
@@ -62,7 +62,7 @@ pub fn make_scratch<P: Folder, E: Write>(
 {
     let scratch = ScratchCopy::beside(alloc, beside)?;
     if let Some(cause) = folder.clear(source, &scratch.path, &scratch.log) {
-        report_of(alloc, &scratch.path, cause, errors);
+        report_text(alloc, &scratch.path, cause, errors);
         return Err(ErrorCode::Store);
     }
     match folder.scratch(source, &scratch.path, is_mended) {
@@ -88,15 +88,15 @@ fn report_fault<E: Write>(
 {
     match fault {
         ScratchFault::OutOfMemory => return ErrorCode::Memory,
-        ScratchFault::Source(cause) => report_of(alloc, source, cause, errors),
-        ScratchFault::ScratchCopy(cause) => report_of(alloc, scratch, cause, errors),
+        ScratchFault::Source(cause) => report_text(alloc, source, cause, errors),
+        ScratchFault::ScratchCopy(cause) => report_text(alloc, scratch, cause, errors),
     }
     ErrorCode::Store
 }
 
 /// Removes a scratch copy and its WAL. Errors are ignored, since either may be missing.
 pub fn remove_scratch<P: Folder>(folder: &mut P, scratch: &ScratchCopy)
-    ensures { (path : List ℕ) → AreTwins path scratch.now
+    ensures { (path : List ℕ) → AreScratchPaths path scratch.now
         → AreRemoved (scratch_of path) (steps_of P.Folder folder.old folder.new) }
 {
     folder.remove(&scratch.path);

@@ -4,7 +4,7 @@
 ghost use Rattle.std.specs.Prelude.{◌≡◌, false, IfSome};
 ghost use Rattle.host_files.specs.Access as access;
 ghost use Rattle.desk_host.specs.Ways as spec;
-ghost use Rattle.desk_host.specs.Ways.{HasChanges, IsWayAt, MayBeRead};
+ghost use Rattle.desk_host.specs.Ways.{HasChanges, IsModeAt, MayBeRead};
 
 use crate::logs::has_commit;
 use host_files::files::{HostFiles, LocalHost};
@@ -38,8 +38,8 @@ impl ReadMode {
 
     /// How many pages with wrong checksums were copied untested. `None` if none were, or if the copy
     /// failed: `status` is the exit status of the command, 0 if it succeeded.
-    pub fn untested(self, status: u8) -> Option<u64>
-        ensures { result ≡ spec.untested self status }
+    pub fn untested_pages(self, status: u8) -> Option<u64>
+        ensures { result ≡ spec.untested_pages self status }
     {
         match self {
             ReadMode::BadChecksums(count) if status == 0 => Some(count),
@@ -59,11 +59,11 @@ pub fn read_mode(rt: &HostRuntime, path: &str, is_damaged: bool) -> ReadMode
 
 // What `read_mode` returns, for any `HostFiles`.
 fn mode_at<F: HostFiles>(alloc: Global, files: &F, path: &str, is_damaged: bool) -> ReadMode
-    ensures way { IfSome (F.answers files.now) (λ it. IsWayAt it path.now is_damaged result) }
+    ensures way { IfSome (F.answers files.now) (λ it. IsModeAt it path.now is_damaged result) }
     ensures may { MayBeRead is_damaged (access.is_no_path path.now) result }
 {
     if is_damaged {
-        return way_for(true, None, false);
+        return mode_for(true, None, false);
     }
     if is_no_path(path) {
         return ReadMode::Itself;
@@ -71,20 +71,24 @@ fn mode_at<F: HostFiles>(alloc: Global, files: &F, path: &str, is_damaged: bool)
     if has_changes(alloc, files, path) {
         return ReadMode::Itself;
     }
-    way_for(false, files.unsummed(path), files.is_out_of_order(path))
+    mode_for(
+        false,
+        files.bad_checksums(path),
+        files.is_out_of_order(path),
+    )
 }
 
 // How a file is read, by whether its WAL is damaged, how many pages have wrong checksums (if known), and
 // whether it lists its tables in an order that the desk doesn't read. The first of these that is so
 // decides.
-fn way_for(is_damaged: bool, unsummed: Option<u64>, is_out_of_order: bool) -> ReadMode
-    ensures way { result ≡ spec.way_for is_damaged unsummed is_out_of_order }
+fn mode_for(is_damaged: bool, bad_checksums: Option<u64>, is_out_of_order: bool) -> ReadMode
+    ensures way { result ≡ spec.mode_for is_damaged bad_checksums is_out_of_order }
     ensures may { MayBeRead is_damaged false result }
 {
     if is_damaged {
         return ReadMode::Damaged;
     }
-    match unsummed {
+    match bad_checksums {
         Some(count) if count != 0 => ReadMode::BadChecksums(count),
         _ if is_out_of_order => ReadMode::OtherOrder,
         _ => ReadMode::Itself,

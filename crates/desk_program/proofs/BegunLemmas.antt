@@ -7,7 +7,7 @@ use Rattle.io_ends.specs.Writing.{BreaksOff}
 use Rattle.io_ends.specs.declared.writing.PartialWrite.{PartialWrite}
 use Rattle.desk_cli.specs.declared.failure.ErrorCode.{ErrorCode}
 use Rattle.desk_cli.specs.Exits.{IsAnnounced}
-use Rattle.desk_cli.specs.Written.{HasBegun}
+use Rattle.desk_cli.specs.Written.{IsPartlyWritten}
 use Rattle.desk_cli.specs.declared.failure.ErrorCode.TheVariants as failure
 
 some_left : (n : ℕ) (bytes : List ℕ) → n < length bytes → drop n bytes ≢ []
@@ -15,7 +15,7 @@ some_left n bytes short none = omega (arith, short, ap length none, length-drop 
 
 -- what a write that broke off leaves
 pub begun_part : (bytes : List ℕ) (out now : Option (List ℕ)) (fault : PartialWrite)
-    → BreaksOff bytes out now fault → HasBegun bytes out now
+    → BreaksOff bytes out now fault → IsPartlyWritten bytes out now
 begun_part bytes out now fault off = record {
   begun = take fault.sent bytes;
   rest = drop fault.sent bytes;
@@ -26,7 +26,7 @@ begun_part bytes out now fault off = record {
 
 -- the printing of a line, by what came of it
 pub announced_by : {A : Type 0} (done : Result A ErrorCode) (line : List ℕ) (out now : Option (List ℕ))
-    → OnOk done (Appends out now line) → IfErr done (λ f. (f ≡ failure.Write) × HasBegun line out now)
+    → OnOk done (Appends out now line) → IfErr done (λ f. (f ≡ failure.Write) × IsPartlyWritten line out now)
     → IsAnnounced done line out now
 announced_by (Ok d) line out now ok err = ok
 announced_by (Err f) line out now ok err = inr (inr err)

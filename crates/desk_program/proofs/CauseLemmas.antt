@@ -16,7 +16,7 @@ use Rattle.desk_cli.specs.Exits.{Ending, EndsWith, enrolment_failure, failure_at
 use Rattle.desk_program.specs.EndCauses.{HasCause, IsEndCounted}
 use Rattle.desk_run.specs.DeskWorld.{Parts}
 use Rattle.std.specs.Result.{IsErrAnd}
-use Rattle.desk_program.specs.Serving.{IsDenied, Traffic, failing, first_failure}
+use Rattle.desk_program.specs.Serving.{IsPortError, Traffic, error_in, first_failure}
 
 -- an enrolment that is reported as a store that failed had that fault
 store_reported : (fault : DeskFault) → enrolment_failure fault ≡ Store → fault ≡ desk.Store
@@ -67,7 +67,7 @@ at_no_store (Err Read) is = cc
 at_no_store (Err (Write fault)) is = cc
 at_no_store (Err CutShort) is = cc
 
-denied_no_store : IsDenied Store → ⊥
+denied_no_store : IsPortError Store → ⊥
 denied_no_store (inl e) = cc
 denied_no_store (inr (inl e)) = cc
 denied_no_store (inr (inr (inl e))) = cc
@@ -79,26 +79,26 @@ same_failure f e = cc
 
 -- nor does the close of one
 pub served_counted : {A : Type 0} (done : Result A ErrorCode) (served : Result Served ServeFault)
-    (closed : Result ⊤ ErrorCode) (old new : ℕ) → IfErr closed IsDenied
-    → failing done ≡ first_failure (failure_at served) (failing closed) → IsEndCounted done old new
+    (closed : Result ⊤ ErrorCode) (old new : ℕ) → IfErr closed IsPortError
+    → error_in done ≡ first_failure (failure_at served) (error_in closed) → IsEndCounted done old new
 served_counted (Ok d) served closed old new denied is store = cc
 served_counted (Err f) served closed old new denied is store =
     absurd (by (failure_at served) closed refl denied (ap Some (sym (same_failure f store)) ∙ is)) where
       some_same : {g : ErrorCode} → Some Store ≡ Some g → g ≡ Store
       some_same e = cc
 
-      by : (at : Option ErrorCode) (closed : Result ⊤ ErrorCode) → failure_at served ≡ at → IfErr closed IsDenied
-          → Some Store ≡ first_failure at (failing closed) → ⊥
+      by : (at : Option ErrorCode) (closed : Result ⊤ ErrorCode) → failure_at served ≡ at → IfErr closed IsPortError
+          → Some Store ≡ first_failure at (error_in closed) → ⊥
       by None (Ok d) same denied e = cc
-      by None (Err g) same denied e = denied_no_store (subst IsDenied (some_same e) denied)
+      by None (Err g) same denied e = denied_no_store (subst IsPortError (some_same e) denied)
       by (Some g) closed same denied e = at_no_store served (same ∙ sym e)
 
 -- nor does the machine
 pub denied_counted : {A : Type 0} (done : Result A ErrorCode) (f : ErrorCode) (old new : ℕ)
-    → IsErrAnd done (λ e. e ≡ f) → IsDenied f → IsEndCounted done old new
+    → IsErrAnd done (λ e. e ≡ f) → IsPortError f → IsEndCounted done old new
 denied_counted (Ok d) f old new is denied store = cc
 denied_counted (Err e) f old new is denied store =
-    absurd (denied_no_store (subst IsDenied (sym is ∙ same_failure e store) denied))
+    absurd (denied_no_store (subst IsPortError (sym is ∙ same_failure e store) denied))
 
 -- an operator of news that could not be listed
 pub news_counted : {A : Type 0} (done : Result A ErrorCode) (fault : DeskFault) (old new : ℕ)

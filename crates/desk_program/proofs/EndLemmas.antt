@@ -10,7 +10,7 @@ use Rattle.desk_cli.specs.declared.failure.ErrorCode.{ErrorCode}
 use Rattle.desk_cli.specs.declared.line.Enrolment.{Enrolment}
 use Rattle.desk_cli.specs.declared.line.PlayArgs.{PlayArgs}
 use Rattle.desk_cli.specs.Exits.{Ending, EndsWith, FailsWith, IsBrokenDown, IsLineBreakdown, enrolment_failure}
-use Rattle.desk_program.specs.Enrolling.{AreListedSoFar, on_terms}
+use Rattle.desk_program.specs.Enrolling.{AreEnrolledSoFar, on_terms}
 use Rattle.desk_program.specs.Keeping.{FindsEnrolled}
 use Rattle.desk_program.specs.PlayLines.{IsNotPlayed}
 
@@ -41,7 +41,7 @@ found_enrolled before e end out w found down only (inr is) = inl is
 pub not_played : (H : Type 0) (play : PlayArgs) (end : Ending) (old out : Option (List ℕ))
     (w after : DeskWorld) (fault : DeskFault) (f : ErrorCode) → f ≡ enrolment_failure fault
     → IsDeskBreakdown fault → EndsWith {A = ⊤} (Err f) end
-    → AreListedSoFar H play.desk.enrolments.items (on_terms w play.desk.terms) after
+    → AreEnrolledSoFar H play.desk.enrolments.items (on_terms w play.desk.terms) after
     → IsNotPlayed H play end (passed old old out out) w after
 not_played H play end old out w after fault f is down ends listed = record {
   ends = broken_down fault f end is down ends;

@@ -8,7 +8,7 @@ use Rattle.desk_run.specs.declared.fault.DeskFault.{DeskFault}
 use Rattle.desk_run.specs.declared.fault.DeskFault.TheVariants.{Store}
 use Rattle.desk_run.proofs.lemmas.Crash.{risen_since}
 use Rattle.desk_cli.specs.declared.line.Enrolment.{Enrolment}
-use Rattle.desk_program.specs.Enrolling.{AreListedSoFar, HasListed, with_operators}
+use Rattle.desk_program.specs.Enrolling.{AreEnrolledSoFar, HasEnrolled, with_operators}
 
 -- some, and then one more
 pub one_more : (es : List Enrolment) (w : DeskWorld) (e : Enrolment) → with_operators w (es ++ e ∷ [])
@@ -27,6 +27,6 @@ counted_since faults first old new (Err e) fault handed below cause = λ store.
 
 -- an enrolment that failed: those before it are listed
 pub listed_err : {A B : Type 0} (done : Result A B) (P : B → Type 0) (H : Type 0) (es : List Enrolment)
-    (w after : DeskWorld) → IsErrAnd done P → AreListedSoFar H es w after → HasListed H done es w after
+    (w after : DeskWorld) → IsErrAnd done P → AreEnrolledSoFar H es w after → HasEnrolled H done es w after
 listed_err (Ok d) P H es w after is so_far = absurd is
 listed_err (Err e) P H es w after is so_far = so_far

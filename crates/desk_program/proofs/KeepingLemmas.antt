@@ -20,11 +20,11 @@ use Rattle.desk_cli.specs.declared.line.Enrolment.{Enrolment}
 use Rattle.desk_cli.specs.declared.line.PlayArgs.{PlayArgs}
 use Rattle.desk_cli.specs.declared.line.ServeArgs.{ServeArgs}
 use Rattle.desk_cli.specs.Exits.{Ending, EndsWith, failure_after, failure_at}
-use Rattle.desk_program.specs.Enrolling.{AreEnrolled, HasListed, on_terms, with_operators}
-use Rattle.desk_program.specs.Keeping.{AreKept, AreKeptSoFar, FindsListed, FindsNews, IsFoundServed, IsLeftByOne, IsPlayKept, IsPortKept}
+use Rattle.desk_program.specs.Enrolling.{AreEnrolled, HasEnrolled, on_terms, with_operators}
+use Rattle.desk_program.specs.Keeping.{AreKept, AreKeptSoFar, FindsEnrolments, FindsNewEnrolments, IsFoundServed, IsLeftByOne, IsPlayKept, IsPortKept}
 use Rattle.desk_program.specs.PlayLines.{done_unless}
 use Rattle.desk_program.specs.Recorded.{IsOpen}
-use Rattle.desk_program.specs.Serving.{AreNoted, AreServed, BringsNews, Denies, EndsAfter, EndsAtNews, Exchange, Grows, IsAskedToListen, IsDenied, IsLastNews, IsUnsent, Traffic, failing, first_failure, news_of, outcome_of, passage_of}
+use Rattle.desk_program.specs.Serving.{AreNoted, AreServed, BringsEnrolments, AddsNothingNew, EndsAfter, EndsAtEnrolments, Exchange, Grows, IsAskedToListen, IsPortError, IsLastEnrolments, IsUnsent, Traffic, error_in, first_failure, news_of, outcome_of, passage_of}
 use Rattle.desk_program.proofs.ServedLemmas.{all_then, all_unsent, both_more, both_news, both_noted, both_served, none, none_last, none_more, not_ok, one_closed, one_ends, served_then, stays, stops}
 
 -- ---- enrolments
@@ -73,7 +73,7 @@ found_so_far es w v after e count before mid now few same listed next (inr p) cr
 pub finds_err : {A B : Type 0} (done : Result A B) (P : B → Type 0) (es : List Enrolment)
     (w after : DeskWorld) (before now : Option World → Type 0) → IsErrAnd done P
     → ((found : Option World) → now found → AreKeptSoFar ⊤ es w after found ⊎ ((after ≡ w) × before found))
-    → FindsNews done es w after before now
+    → FindsNewEnrolments done es w after before now
 finds_err (Ok d) P es w after before now is finds = absurd is
 finds_err (Err e) P es w after before now is finds = finds
 
@@ -85,9 +85,9 @@ finds_ok w after before now (inr p) found may = inr (p.0, p.1 found may)
 
 -- if the desk was settled, what is found is what enrolments left, or what one more would leave
 pub settled_news : {A B : Type 0} (H : Type 0) (done : Result A B) (es : List Enrolment)
-    (w after : DeskWorld) (before now : Option World → Type 0) → HasListed H done es w after
-    → FindsNews done es w after before now → LeavesOnly w.content before
-    → (found : Option World) → now found → FindsListed H done es w after found
+    (w after : DeskWorld) (before now : Option World → Type 0) → HasEnrolled H done es w after
+    → FindsNewEnrolments done es w after before now → LeavesOnly w.content before
+    → (found : Option World) → now found → FindsEnrolments H done es w after found
 settled_news H (Ok d) es w after before now listed finds only found may = by (finds found may)
   where
     by : (found ≡ Some after.content) ⊎ ((after ≡ w) × before found) → found ≡ Some after.content
@@ -150,8 +150,8 @@ module _ {A B C : Type 0} where
       → ((xs ys : List Exchange) (one last : Option (List Enrolment)) → EndsAfter {A = A} (Ok d) m xs one
       → EndsAfter then k ys last → EndsAfter whole n (xs ++ ys) last)
       → ((last : Option (List Enrolment)) (x y : DeskWorld)
-      → IsLastNews (IsHonest (g.doubt left.store)) last then x y
-      → IsLastNews (IsHonest (g.doubt left.store)) last whole x y)
+      → IsLastEnrolments (IsHonest (g.doubt left.store)) last then x y
+      → IsLastEnrolments (IsHonest (g.doubt left.store)) last whole x y)
       → ((P : Type 0) → OnOk then P → OnOk whole P) → AreKept g whole n (course a c) begun left
   both_kept g d then whole m k n a b c begun between left by h t few ends lasts well =
       let H = IsHonest (g.doubt between.store) in
@@ -198,7 +198,7 @@ module _ {A B C : Type 0} where
 
 -- nothing is taken
 pub none_kept : {A S : Type 0} (g : Ghosts S) (done : Result A ErrorCode) (count : ℕ) (old new : Traffic)
-    (desk : Parts S) → Denies old new → (IsOpen old.recorded → OnOk done (IsOpen new.recorded))
+    (desk : Parts S) → AddsNothingNew old new → (IsOpen old.recorded → OnOk done (IsOpen new.recorded))
     → EndsAfter done count [] None → AreKept g done count (course old new) desk desk
 none_kept g done count old new desk denies still ends = record {
   taken = none (IsHonest (g.doubt desk.store)) done count old new (world_of g.content desk)
@@ -208,10 +208,10 @@ none_kept g done count old new desk denies still ends = record {
 
 -- news are brought, and no connection is taken then
 last_news : {A : Type 0} (H : Type 0) (done : Result A ErrorCode) (f : ErrorCode) (newly_enrolled : List Enrolment)
-    (w after : DeskWorld) → IsErrAnd done (λ e. e ≡ f) → EndsAtNews H f newly_enrolled w after
-    → IsLastNews H (Some newly_enrolled) done w after
+    (w after : DeskWorld) → IsErrAnd done (λ e. e ≡ f) → EndsAtEnrolments H f newly_enrolled w after
+    → IsLastEnrolments H (Some newly_enrolled) done w after
 last_news H (Ok d) f newly_enrolled w after is ends = absurd is
-last_news H (Err e) f newly_enrolled w after is ends = subst (λ v. EndsAtNews H v newly_enrolled w after) (sym is) ends
+last_news H (Err e) f newly_enrolled w after is ends = subst (λ v. EndsAtEnrolments H v newly_enrolled w after) (sym is) ends
 
 ends_news : {A : Type 0} (done : Result A ErrorCode) (f : ErrorCode) (newly_enrolled : List Enrolment)
     → IsErrAnd done (λ e. e ≡ f) → EndsAfter done 1 [] (Some newly_enrolled)
@@ -220,8 +220,8 @@ ends_news (Err e) f newly_enrolled is = tt
 
 pub news_kept : {A S : Type 0} (g : Ghosts S) (done : Result A ErrorCode) (f : ErrorCode)
     (newly_enrolled : List Enrolment) (old mid new : Traffic) (begun left : Parts S)
-    → IsErrAnd done (λ e. e ≡ f) → BringsNews old mid newly_enrolled → Denies mid new
-    → EndsAtNews (IsHonest (g.doubt left.store)) f newly_enrolled (world_of g.content begun) (world_of g.content left)
+    → IsErrAnd done (λ e. e ≡ f) → BringsEnrolments old mid newly_enrolled → AddsNothingNew mid new
+    → EndsAtEnrolments (IsHonest (g.doubt left.store)) f newly_enrolled (world_of g.content begun) (world_of g.content left)
     → (IsHonest (g.doubt left.store) → (found : Option World) → g.may_leave left.store found
     → IsFoundServed [] (Some newly_enrolled) (world_of g.content left) found
     ⊎ ((world_of g.content left ≡ world_of g.content begun) × g.may_leave begun.store found))
@@ -250,12 +250,12 @@ news_kept g done f newly_enrolled old mid new begun left is brings denies ends f
 
 -- what is found then: an operator could not be listed, or all are
 module _ {A B : Type 0} (done : Result A B) (newly_enrolled : List Enrolment) (w after : DeskWorld)
-    (before now : Option World → Type 0) (finds : FindsNews done newly_enrolled w after before now)
+    (before now : Option World → Type 0) (finds : FindsNewEnrolments done newly_enrolled w after before now)
     (found : Option World) where
   pub unlisted_found : (fault : B) → done ≡ Err fault → now found
       → IsFoundServed [] (Some newly_enrolled) after found ⊎ ((after ≡ w) × before found)
   unlisted_found fault was may =
-      by (subst (λ r. FindsNews r newly_enrolled w after before now) was finds found may)
+      by (subst (λ r. FindsNewEnrolments r newly_enrolled w after before now) was finds found may)
     where
       by : AreKeptSoFar ⊤ newly_enrolled w after found ⊎ ((after ≡ w) × before found)
           → IsFoundServed [] (Some newly_enrolled) after found ⊎ ((after ≡ w) × before found)
@@ -264,7 +264,7 @@ module _ {A B : Type 0} (done : Result A B) (newly_enrolled : List Enrolment) (w
 
   pub listed_found : (d : A) → done ≡ Ok d → now found
       → (found ≡ Some after.content) ⊎ ((after ≡ w) × before found)
-  listed_found d was may = subst (λ r. FindsNews r newly_enrolled w after before now) was finds found may
+  listed_found d was may = subst (λ r. FindsNewEnrolments r newly_enrolled w after before now) was finds found may
 
   pub untaken_found : (d : A) → done ≡ Ok d → now found
       → IsFoundServed [] (Some newly_enrolled) after found ⊎ ((after ≡ w) × before found)
@@ -319,8 +319,8 @@ pub one_kept : {A S : Type 0} (g : Ghosts S) (done : Result A ErrorCode) (x : Ex
     (world_of g.content listed)
     → HasServed (IsHonest (g.doubt left.store)) x.served (passage_of x) (world_of g.content listed)
     x.arrival.moment (world_of g.content left)
-    → failing done ≡ first_failure (failure_at x.served) (failing closed)
-    → OnOk closed (IsOpen new.recorded) → IfErr closed IsDenied
+    → error_in done ≡ first_failure (failure_at x.served) (error_in closed)
+    → OnOk closed (IsOpen new.recorded) → IfErr closed IsPortError
     → (IsHonest (g.doubt left.store) → (found : Option World) → g.may_leave listed.store found
     → (found ≡ Some (world_of g.content listed).content)
     ⊎ ((world_of g.content listed ≡ world_of g.content begun) × g.may_leave begun.store found))
@@ -398,7 +398,7 @@ module _ {A S : Type 0} (g : Ghosts S) (done : Result A ErrorCode) (serve : Serv
       → world_of g.content desk ≡ with_operators (on_terms w serve.desk.terms) serve.desk.enrolments.items)
       → ((found : Option World) → g.may_leave desk.store found
       → found ≡ Some (world_of g.content desk).content)
-      → (f : ErrorCode) (old new : Traffic) → IsErrAnd done (λ e. e ≡ f) → IsDenied f
+      → (f : ErrorCode) (old new : Traffic) → IsErrAnd done (λ e. e ≡ f) → IsPortError f
       → IsAskedToListen old new serve.port → (found : Option World) → g.may_leave desk.store found
       → IsPortKept (IsHonest (g.doubt desk.store)) done serve (course old new) w (world_of g.content desk)
       found

@@ -29,7 +29,7 @@ use Rattle.desk_cli.specs.declared.line.Enrolment.{Enrolment}
 use Rattle.desk_program.specs.Enrolling.{AreEnrolled, with_operators}
 use Rattle.desk_program.specs.PortGiven.{IsWhole}
 use Rattle.desk_program.specs.PortTurns.{AreTurns, HasTurns, IsGiven, IsSent, ListsLast, Sends, Turn, caller, left_by, sent_in, world_by, world_met}
-use Rattle.desk_program.specs.Serving.{AreServed, AreTaken, Exchange, Grows, IsAskedToListen, IsLastNews, Parting, Traffic, is_answered, outcome_of, passage_of}
+use Rattle.desk_program.specs.Serving.{AreServed, AreTaken, Exchange, Grows, IsAskedToListen, IsLastEnrolments, Parting, Traffic, is_answered, outcome_of, passage_of}
 
 -- ---- what one client was sent
 
@@ -163,7 +163,7 @@ all_fresh None some xs h = let shut : IsSome {T = List Parting} None = some in c
 all_fresh (Some partings) some xs h = h
 
 last_listed : {A : Type 0} (H : Type 0) → H → (last : Option (List Enrolment)) (done : Result A ErrorCode)
-    (w after : DeskWorld) → IsLastNews H last done w after → ListsLast last w after
+    (w after : DeskWorld) → IsLastEnrolments H last done w after → ListsLast last w after
 last_listed H p None done w after h = h
 last_listed H p (Some newly_enrolled) (Ok d) w after h = absurd h
 last_listed H p (Some newly_enrolled) (Err f) w after (inl broken) =

@@ -18,7 +18,7 @@ use Rattle.desk_cli.specs.declared.line.ServeArgs.{ServeArgs}
 use Rattle.desk_cli.specs.declared.line.Enrolment.{Enrolment}
 use Rattle.desk_program.specs.Enrolling.{AreEnrolled, on_terms, with_operators}
 use Rattle.desk_program.specs.Recorded.{IsCutOff, IsOpen, Noted, Recorded, Ended, Open, RecordsNone, with_news, with_request}
-use Rattle.desk_program.specs.Serving.{AreNoted, AreServed, AreTaken, Denies, EndsAfter, EndsAtNews, EndsDeskBy, Exchange, Grows, IsAskedToListen, IsAtPort, IsDenied, IsLastNews, IsUnsent, Parting, PrintsIfListening, Traffic, failing, first_failure, news_of, outcome_of, passage_of}
+use Rattle.desk_program.specs.Serving.{AreNoted, AreServed, AreTaken, AddsNothingNew, EndsAfter, EndsAtEnrolments, EndsDeskBy, Exchange, Grows, IsAskedToListen, IsAtPort, IsPortError, IsLastEnrolments, IsUnsent, Parting, PrintsIfListening, Traffic, error_in, first_failure, news_of, outcome_of, passage_of}
 
 -- ---- the connections that are taken
 
@@ -61,7 +61,7 @@ same_noted None Fails = tt
 same_noted (Some recorded) Fails = λ fails. refl
 
 -- all is as it was
-pub stays : (port : Traffic) → Denies port port
+pub stays : (port : Traffic) → AddsNothingNew port port
 stays port = (refl, refl, refl, refl, stays_noted port.recorded)
 
 -- where it isn't known what was recorded, nothing is reported
@@ -185,14 +185,14 @@ both_news (x ∷ xs) ys last = ap (λ rest. x.newly_enrolled ∷ rest) (both_new
 
 -- a desk that goes on has listed the operators of all news
 pub none_last : {A : Type 0} (H : Type 0) (last : Option (List Enrolment)) (d : A) (w after : DeskWorld)
-    → IsLastNews H last (Ok d) w after → (last ≡ None) × (after ≡ w)
+    → IsLastEnrolments H last (Ok d) w after → (last ≡ None) × (after ≡ w)
 none_last H None d w after h = (refl, h)
 none_last H (Some newly_enrolled) d w after h = absurd h
 
 -- nothing is taken
 pub none : {A : Type 0} (H : Type 0) (done : Result A ErrorCode) (count : ℕ)
     (old new : Traffic)
-    (w after : DeskWorld) → Denies old new → (IsOpen old.recorded → OnOk done (IsOpen new.recorded))
+    (w after : DeskWorld) → AddsNothingNew old new → (IsOpen old.recorded → OnOk done (IsOpen new.recorded))
     → after ≡ w → EndsAfter done count [] None → AreTaken H done count (course old new) w after
 none H done count old new w after denies still left ends = record {
   exchanges = [];
@@ -220,14 +220,14 @@ not_ok (Err e) f P is = tt
 
 -- one connection is taken, and closed
 pub one_ends : {A : Type 0} (done : Result A ErrorCode) (x : Exchange) (closed : Result ⊤ ErrorCode)
-    → IfErr closed IsDenied → failing done ≡ first_failure (failure_at x.served) (failing closed)
+    → IfErr closed IsPortError → error_in done ≡ first_failure (failure_at x.served) (error_in closed)
     → EndsAfter done 1 (x ∷ []) None
 one_ends {A} done x closed denied is = by done (failure_at x.served) closed refl denied is where
   some_same : {f g : ErrorCode} → Some f ≡ Some g → f ≡ g
   some_same e = cc
 
   by : (done : Result A ErrorCode) (at : Option ErrorCode) (closed : Result ⊤ ErrorCode) → failure_at x.served ≡ at
-      → IfErr closed IsDenied → failing done ≡ first_failure at (failing closed)
+      → IfErr closed IsPortError → error_in done ≡ first_failure at (error_in closed)
       → EndsAfter done 1 (x ∷ []) None
   by (Ok d) None (Ok c) same denied is = (
     refl,
@@ -236,12 +236,12 @@ one_ends {A} done x closed denied is = by done (failure_at x.served) closed refl
   by (Ok d) None (Err f) same denied is = cc
   by (Ok d) (Some f) closed same denied is = cc
   by (Err e) None (Ok c) same denied is = cc
-  by (Err e) None (Err f) same denied is = inl (same, subst IsDenied (some_same (sym is)) denied)
+  by (Err e) None (Err f) same denied is = inl (same, subst IsPortError (some_same (sym is)) denied)
   by (Err e) (Some f) closed same denied is = inr (same ∙ sym is, refl, refl)
 
 -- it ends well only if its closing did
 pub one_closed : {A : Type 0} (P : Type 0) (done : Result A ErrorCode) (at : Option ErrorCode)
-    (closed : Result ⊤ ErrorCode) → failing done ≡ first_failure at (failing closed) → OnOk closed P
+    (closed : Result ⊤ ErrorCode) → error_in done ≡ first_failure at (error_in closed) → OnOk closed P
     → OnOk done P
 one_closed P (Ok d) None (Ok c) is h = h
 one_closed P (Ok d) None (Err f) is h = cc
@@ -289,20 +289,20 @@ stops_by d whole f then is was m n k xs ys one last first ends = stops whole f i
 
 -- so are the last news
 pub last_goes_on : {B C : Type 0} (H : Type 0) (then : Result B ErrorCode) (e : B) (whole : C) → then ≡ Ok e
-    → (last : Option (List Enrolment)) (w after : DeskWorld) → IsLastNews H last then w after
-    → IsLastNews {A = C} H last (Ok whole) w after
+    → (last : Option (List Enrolment)) (w after : DeskWorld) → IsLastEnrolments H last then w after
+    → IsLastEnrolments {A = C} H last (Ok whole) w after
 last_goes_on H then e whole is None w after h = h
 last_goes_on H then e whole is (Some newly_enrolled) w after h =
-    absurd (subst (λ r. IsLastNews H (Some newly_enrolled) r w after) is h)
+    absurd (subst (λ r. IsLastEnrolments H (Some newly_enrolled) r w after) is h)
 
 pub last_stops : {A B : Type 0} (H : Type 0) (whole : Result A ErrorCode) (f : ErrorCode)
     (then : Result B ErrorCode) → IsErrAnd whole (λ e. e ≡ f) → then ≡ Err f
-    → (last : Option (List Enrolment)) (w after : DeskWorld) → IsLastNews H last then w after
-    → IsLastNews H last whole w after
+    → (last : Option (List Enrolment)) (w after : DeskWorld) → IsLastEnrolments H last then w after
+    → IsLastEnrolments H last whole w after
 last_stops H whole f then is was None w after h = h
 last_stops H (Ok d) f then is was (Some newly_enrolled) w after h = absurd is
-last_stops H (Err e) f then is was (Some newly_enrolled) w after h = subst (λ v. EndsAtNews H v newly_enrolled w after) (sym is)
-    (subst (λ r. IsLastNews H (Some newly_enrolled) r w after) was h)
+last_stops H (Err e) f then is was (Some newly_enrolled) w after h = subst (λ v. EndsAtEnrolments H v newly_enrolled w after) (sym is)
+    (subst (λ r. IsLastEnrolments H (Some newly_enrolled) r w after) was h)
 
 -- what is printed, after connections were served
 pub still_heard : (old mid new : Traffic) (number : ℕ) (writes : Course (Option (List ℕ)))
@@ -315,7 +315,7 @@ still_heard old mid new number writes same (inr none) = inr none
 -- the operators are listed, and no connection is taken
 pub unserved : {A : Type 0} (H : Type 0) (done : Result A ErrorCode) (f : ErrorCode) (serve : ServeArgs)
     (old new : Traffic) (w after : DeskWorld) → IsErrAnd done (λ e. e ≡ f)
-    → IsDenied f → IsAskedToListen old new serve.port → (H → after ≡ with_operators (on_terms w serve.desk.terms)
+    → IsPortError f → IsAskedToListen old new serve.port → (H → after ≡ with_operators (on_terms w serve.desk.terms)
     serve.desk.enrolments.items)
     → IsAtPort H done serve (course old new) w after
 unserved H done f serve old new w after is denied listens listed = inl (record {

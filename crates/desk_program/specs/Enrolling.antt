@@ -23,21 +23,21 @@ AreEnrolled H [] w after = after ≡ w
 AreEnrolled H (e ∷ es) w after = H → after ≡ with_operators w (e ∷ es)
 
 -- the first `count` operators are enrolled, and not all
-pub record AreListedSoFar (H : Type 0) (es : List Enrolment) (w after : DeskWorld) : Type 0 where
+pub record AreEnrolledSoFar (H : Type 0) (es : List Enrolment) (w after : DeskWorld) : Type 0 where
   pub count : ℕ
   pub few : count < length es
   pub left : H → after ≡ with_operators w (take count es)
 
 -- by the result: all operators are enrolled, or only the first ones
-abbrev pub HasListed : {A B : Type 0} → Type 0 → Result A B → List Enrolment → DeskWorld → DeskWorld → Type 0
-HasListed H (Ok done) es w after = H → after ≡ with_operators w es
-HasListed H (Err fault) es w after = AreListedSoFar H es w after
+abbrev pub HasEnrolled : {A B : Type 0} → Type 0 → Result A B → List Enrolment → DeskWorld → DeskWorld → Type 0
+HasEnrolled H (Ok done) es w after = H → after ≡ with_operators w es
+HasEnrolled H (Err fault) es w after = AreEnrolledSoFar H es w after
 
 -- the same of new enrolments: if there are none, nothing is changed
-abbrev pub HasListedNews :
+abbrev pub HasEnrolledNew :
     {A B : Type 0} → Type 0 → Result A B → List Enrolment → DeskWorld → DeskWorld → Type 0
-HasListedNews H (Ok done) es w after = AreEnrolled H es w after
-HasListedNews H (Err fault) es w after = AreListedSoFar H es w after
+HasEnrolledNew H (Ok done) es w after = AreEnrolled H es w after
+HasEnrolledNew H (Err fault) es w after = AreEnrolledSoFar H es w after
 
 -- if the storage is intact (H), the operator is enrolled with its ceiling, and nothing else is changed
 abbrev pub ListsOperator : Type 0 → Enrolment → DeskWorld → DeskWorld → Type 0
@@ -53,5 +53,5 @@ abbrev pub IsCutOff : List ℕ → Option (List ℕ) → Option (List ℕ) → T
 IsCutOff bytes out now = (fault : PartialWrite) × BreaksOff bytes out now fault
 
 -- a line is written whole, or up to the write that failed, or not at all
-abbrev pub IsWrittenIfRoom : List ℕ → Option (List ℕ) → Option (List ℕ) → Type 0
-IsWrittenIfRoom line out now = (now ≡ out) ⊎ Appends out now line ⊎ IsCutOff line out now
+abbrev pub IsWrittenAsFarAsPossible : List ℕ → Option (List ℕ) → Option (List ℕ) → Type 0
+IsWrittenAsFarAsPossible line out now = (now ≡ out) ⊎ Appends out now line ⊎ IsCutOff line out now

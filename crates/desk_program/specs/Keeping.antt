@@ -17,7 +17,7 @@ use Rattle.desk_cli.specs.declared.line.Line.TheVariants as line
 use Rattle.desk_cli.specs.declared.line.PlayArgs.{PlayArgs}
 use Rattle.desk_cli.specs.declared.line.ServeArgs.{ServeArgs}
 use Rattle.desk_cli.specs.Exits.{Ending, EndsWith, IsBrokenDown}
-use Rattle.desk_program.specs.Enrolling.{AreListedSoFar, on_terms, with_operators}
+use Rattle.desk_program.specs.Enrolling.{AreEnrolledSoFar, on_terms, with_operators}
 use Rattle.desk_program.specs.Outside.{Outside}
 use Rattle.desk_program.specs.PlayLines.{IsNotPlayed, IsPlayed}
 use Rattle.desk_program.specs.Serving.{AreTaken, Exchange, HasBegunServing, IsNotBegun, Traffic, passage_of}
@@ -25,25 +25,25 @@ use Rattle.desk_program.specs.Serving.{AreTaken, Exchange, HasBegunServing, IsNo
 -- the first operators are enrolled, and not all; the next start finds these, or these and the next one
 pub record AreKeptSoFar (H : Type 0) (es : List Enrolment) (w after : DeskWorld) (found : Option World) :
     Type 0 where
-  pub listed : AreListedSoFar H es w after
+  pub listed : AreEnrolledSoFar H es w after
   pub finds : (found ≡ Some (with_operators w (take listed.count es)).content)
       ⊎ (found ≡ Some (with_operators w (take (listed.count + 1) es)).content)
 
 -- what the next start finds after enrolments at a desk of which it could find only one content: what they
 -- left, or, if one could not be made, what one more would leave
-abbrev pub FindsListed :
+abbrev pub FindsEnrolments :
     {A B : Type 0} → Type 0 → Result A B → List Enrolment → DeskWorld → DeskWorld → Option World → Type 0
-FindsListed H (Ok done) es w after found = found ≡ Some after.content
-FindsListed H (Err fault) es w after found = AreKeptSoFar H es w after found
+FindsEnrolments H (Ok done) es w after found = found ≡ Some after.content
+FindsEnrolments H (Err fault) es w after found = AreKeptSoFar H es w after found
 
 -- what the next start finds after enrolments is what they left; or, if one failed, what one more would
 -- leave. If nothing was changed, it may be what could have been found before (`before`)
-abbrev pub FindsNews :
+abbrev pub FindsNewEnrolments :
     {A B : Type 0} → Result A B → List Enrolment → DeskWorld → DeskWorld → (Option World → Type 0)
     → (Option World → Type 0) → Type 0
-FindsNews (Ok done) es w after before now = (found : Option World) → now found
+FindsNewEnrolments (Ok done) es w after before now = (found : Option World) → now found
     → (found ≡ Some after.content) ⊎ ((after ≡ w) × before found)
-FindsNews (Err fault) es w after before now = (found : Option World) → now found
+FindsNewEnrolments (Err fault) es w after before now = (found : Option World) → now found
     → AreKeptSoFar ⊤ es w after found ⊎ ((after ≡ w) × before found)
 
 -- the next start finds the operator enrolled; or it finds what was there before, and nothing was printed

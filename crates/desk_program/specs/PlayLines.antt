@@ -10,7 +10,7 @@ use Rattle.desk_cli.specs.declared.line.PlayArgs.{PlayArgs}
 use Rattle.desk_cli.specs.declared.line.Enrolment.{Enrolment}
 use Rattle.desk_cli.specs.declared.failure.ErrorCode.TheVariants as failure
 use Rattle.desk_cli.specs.Exits.{Ending, EndsWell, EndsWith, FailsWith, IsBrokenDown, failure_after}
-use Rattle.desk_program.specs.Enrolling.{AreListedSoFar, IsCutOff, ListsOperator, enrolled_line, on_terms, with_operators}
+use Rattle.desk_program.specs.Enrolling.{AreEnrolledSoFar, IsCutOff, ListsOperator, enrolled_line, on_terms, with_operators}
 
 -- the result of a run that ended with this failure; Ok if there is none
 abbrev pub done_unless : Option ErrorCode → Result ⊤ ErrorCode
@@ -31,7 +31,7 @@ pub record IsPlayed (H : Type 0) (play : PlayArgs) (end : Ending) (p : Passage) 
 pub record IsNotPlayed (H : Type 0) (play : PlayArgs) (end : Ending) (p : Passage) (w after : DeskWorld) :
     Type 0 where
   pub ends : IsBrokenDown end
-  pub listed : AreListedSoFar H play.desk.enrolments.items (on_terms w play.desk.terms) after
+  pub listed : AreEnrolledSoFar H play.desk.enrolments.items (on_terms w play.desk.terms) after
   pub unread : p.reads.after ≡ p.reads.before
   pub unwritten : p.writes.after ≡ p.writes.before
 

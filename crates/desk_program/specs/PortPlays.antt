@@ -8,7 +8,7 @@ use Rattle.desk_wire.specs.Playing.{max_answered}
 use Rattle.desk_cli.specs.declared.failure.ErrorCode.{ErrorCode}
 use Rattle.desk_cli.specs.declared.line.PlayArgs.{PlayArgs}
 use Rattle.desk_cli.specs.Exits.{IsLineBreakdown}
-use Rattle.desk_program.specs.Enrolling.{AreListedSoFar, on_terms, with_operators}
+use Rattle.desk_program.specs.Enrolling.{AreEnrolledSoFar, on_terms, with_operators}
 use Rattle.desk_program.specs.Keeping.{AreKeptSoFar, IsFoundServed}
 use Rattle.desk_program.specs.Serving.{AreTaken, Traffic}
 
@@ -24,7 +24,7 @@ pub record AreNoneTaken {A : Type 0} (H : Type 0) (done : Result A ErrorCode) (p
     (port : Course Traffic) (w after : DeskWorld) : Type 0 where
   pub broken : IsErrAnd done IsLineBreakdown
   pub untaken : port.after ≡ port.before
-  pub listed : AreListedSoFar H play.desk.enrolments.items (on_terms w play.desk.terms) after
+  pub listed : AreEnrolledSoFar H play.desk.enrolments.items (on_terms w play.desk.terms) after
 
 -- the command `play` is carried out with the requests of a port
 abbrev pub IsInputPlayed :

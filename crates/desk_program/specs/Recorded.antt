@@ -59,10 +59,10 @@ abbrev pub AreNamed : List Enrolment → Type 0
 AreNamed newly_enrolled = AllByRecursion (λ e. IsTrue (is_operator_name e.operator)) newly_enrolled
 
 -- the new enrolments, all valid, are recorded; a journal that has ended takes none
-abbrev pub RecordsNews : Option Recorded → Option Recorded → List Enrolment → Type 0
-RecordsNews None now newly_enrolled = ⊤
-RecordsNews (Some (Ended text)) now newly_enrolled = ⊥
-RecordsNews (Some (Open n)) now newly_enrolled =
+abbrev pub RecordsEnrolments : Option Recorded → Option Recorded → List Enrolment → Type 0
+RecordsEnrolments None now newly_enrolled = ⊤
+RecordsEnrolments (Some (Ended text)) now newly_enrolled = ⊥
+RecordsEnrolments (Some (Open n)) now newly_enrolled =
     AreEnrolments newly_enrolled × AreNamed newly_enrolled × (now ≡ Some (Open (with_news n newly_enrolled)))
 
 -- what comes from a client is one whole request, which is recorded with its moment, or nothing

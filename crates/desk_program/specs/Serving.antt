@@ -13,8 +13,8 @@ use Rattle.desk_cli.specs.declared.failure.ErrorCode.TheVariants as failure
 use Rattle.desk_cli.specs.Exits.{Ending, EndsWith, IsAnnounced, IsLineBreakdown, failure_at}
 use Rattle.desk_cli.specs.declared.line.Enrolment.{Enrolment}
 use Rattle.desk_program.specs.declared.port.ExchangeEnd.{ExchangeEnd}
-use Rattle.desk_program.specs.Enrolling.{AreEnrolled, AreListedSoFar, on_terms, with_operators}
-use Rattle.desk_program.specs.Recorded.{IsOpen, Recorded, RecordsAnswer, RecordsNews, RecordsNone, RecordsRequest}
+use Rattle.desk_program.specs.Enrolling.{AreEnrolled, AreEnrolledSoFar, on_terms, with_operators}
+use Rattle.desk_program.specs.Recorded.{IsOpen, Recorded, RecordsAnswer, RecordsEnrolments, RecordsNone, RecordsRequest}
 
 -- the line that says that the port is open
 abbrev pub listening_line : ℕ → List ℕ
@@ -94,14 +94,14 @@ Closes old new parting = Grows old.closed new.closed (parting ∷ []) × (new.ta
     × RecordsAnswer old.recorded new.recorded parting.sent parting.outcome.is_answered
 
 -- new enrolments are returned, and recorded
-abbrev pub BringsNews : Traffic → Traffic → List Enrolment → Type 0
-BringsNews old new enrolments = Grows old.newly_enrolled new.newly_enrolled (enrolments ∷ []) × (new.taken ≡ old.taken)
+abbrev pub BringsEnrolments : Traffic → Traffic → List Enrolment → Type 0
+BringsEnrolments old new enrolments = Grows old.newly_enrolled new.newly_enrolled (enrolments ∷ []) × (new.taken ≡ old.taken)
     × (new.closed ≡ old.closed) × (new.listened ≡ old.listened)
-    × RecordsNews old.recorded new.recorded enrolments
+    × RecordsEnrolments old.recorded new.recorded enrolments
 
 -- nothing is returned, taken or closed, and the journal goes on or is cut off
-abbrev pub Denies : Traffic → Traffic → Type 0
-Denies old new = (new.listened ≡ old.listened) × (new.taken ≡ old.taken) × (new.closed ≡ old.closed)
+abbrev pub AddsNothingNew : Traffic → Traffic → Type 0
+AddsNothingNew old new = (new.listened ≡ old.listened) × (new.taken ≡ old.taken) × (new.closed ≡ old.closed)
     × (new.newly_enrolled ≡ old.newly_enrolled) × RecordsNone old.recorded new.recorded
 
 -- nothing was sent to the client yet, if the port reports what it closes
@@ -142,7 +142,7 @@ outcome_of served = record { is_whole = is_whole served; is_answered = is_answer
 
 -- the new enrolments, the request and the answer of a connection are recorded
 pub record IsNoted (x : Exchange) (old listed asked new : Option Recorded) : Type 0 where
-  pub newly_enrolled : RecordsNews old listed x.newly_enrolled
+  pub newly_enrolled : RecordsEnrolments old listed x.newly_enrolled
   pub unsent : IfSome listed (λ recorded. x.out ≡ Some [])
   pub request : RecordsRequest listed asked x.arrival.moment x.arrival.bytes
   pub answer : RecordsAnswer asked new x.parting.sent x.parting.outcome.is_answered
@@ -152,7 +152,7 @@ pub record IsNoted (x : Exchange) (old listed asked new : Option Recorded) : Typ
 abbrev pub AreNoted : Option Recorded → List Exchange → Option (List Enrolment) → Option Recorded → Type 0
 AreNoted old [] None new = RecordsNone old new
 AreNoted old [] (Some newly_enrolled) new =
-    (listed : Option Recorded) × RecordsNews old listed newly_enrolled × RecordsNone listed new
+    (listed : Option Recorded) × RecordsEnrolments old listed newly_enrolled × RecordsNone listed new
 AreNoted old (x ∷ xs) last new =
     (listed : Option Recorded)
     × (asked : Option Recorded)
@@ -173,9 +173,9 @@ AreServed H (x ∷ xs) w after =
     × AreServed H xs between after
 
 -- the error of a result; None if it is Ok
-abbrev pub failing : {A : Type 0} → Result A ErrorCode → Option ErrorCode
-failing (Ok done) = None
-failing (Err failure) = Some failure
+abbrev pub error_in : {A : Type 0} → Result A ErrorCode → Option ErrorCode
+error_in (Ok done) = None
+error_in (Err failure) = Some failure
 
 -- the first of two failures, or else the second; None if there is neither
 abbrev pub first_failure : Option ErrorCode → Option ErrorCode → Option ErrorCode
@@ -184,23 +184,23 @@ first_failure (Some failure) then = Some failure
 
 -- the errors of a port: memory ran out, a write failed, no connection can be had, the clock is out of range,
 -- or the journal can't be written
-abbrev pub IsDenied : ErrorCode → Type 0
-IsDenied f =
+abbrev pub IsPortError : ErrorCode → Type 0
+IsPortError f =
     (f ≡ failure.Memory) ⊎ (f ≡ failure.Write) ⊎ (f ≡ failure.Network) ⊎ (f ≡ failure.Clock)
     ⊎ (f ≡ failure.Broken)
 
 -- the desk ended at new enrolments after which no connection was taken: one could not be made, and those
 -- before it are; or all are made, and then the port failed
-abbrev pub EndsAtNews : Type 0 → ErrorCode → List Enrolment → DeskWorld → DeskWorld → Type 0
-EndsAtNews H f newly_enrolled w after =
-    (IsLineBreakdown f × AreListedSoFar H newly_enrolled w after) ⊎ (IsDenied f × AreEnrolled H newly_enrolled w after)
+abbrev pub EndsAtEnrolments : Type 0 → ErrorCode → List Enrolment → DeskWorld → DeskWorld → Type 0
+EndsAtEnrolments H f newly_enrolled w after =
+    (IsLineBreakdown f × AreEnrolledSoFar H newly_enrolled w after) ⊎ (IsPortError f × AreEnrolled H newly_enrolled w after)
 
 -- new enrolments after the last connection, if there are any: the desk ended there, and they are made as far
 -- as they could be
-abbrev pub IsLastNews :
+abbrev pub IsLastEnrolments :
     {A : Type 0} → Type 0 → Option (List Enrolment) → Result A ErrorCode → DeskWorld → DeskWorld → Type 0
-IsLastNews H None done w after = after ≡ w
-IsLastNews H (Some newly_enrolled) done w after = IsErrAnd done (λ failure. EndsAtNews H failure newly_enrolled w after)
+IsLastEnrolments H None done w after = after ≡ w
+IsLastEnrolments H (Some newly_enrolled) done w after = IsErrAnd done (λ failure. EndsAtEnrolments H failure newly_enrolled w after)
 
 -- the new enrolments before each connection, and then those after the last connection
 abbrev pub news_of : List Exchange → Option (List Enrolment) → List (List Enrolment)
@@ -209,7 +209,7 @@ news_of xs last = map (λ x. x.newly_enrolled) xs ++ option_to_list last
 -- the desk ended with the failure f: at the request of the last of these connections, or as that was closed,
 -- or later, perhaps at new enrolments after it. No connection before ended the desk
 abbrev pub EndsDeskBy : ErrorCode → List Exchange → Option (List Enrolment) → Type 0
-EndsDeskBy f [] None = IsDenied f
+EndsDeskBy f [] None = IsPortError f
 EndsDeskBy f [] (Some newly_enrolled) = ⊤
 EndsDeskBy f (x ∷ xs) last = ((failure_at x.served ≡ None) × EndsDeskBy f xs last)
     ⊎ ((failure_at x.served ≡ Some f) × (xs ≡ []) × (last ≡ None))
@@ -239,7 +239,7 @@ pub record AreTaken {A : Type 0} (H : Type 0) (done : Result A ErrorCode) (count
   pub recorded : AreNoted port.before.recorded exchanges last port.after.recorded
   pub stays_open : IsOpen port.before.recorded → OnOk done (IsOpen port.after.recorded)
   pub served : AreServed H exchanges w between
-  pub untaken : IsLastNews H last done between after
+  pub untaken : IsLastEnrolments H last done between after
   pub ends : EndsAfter done count exchanges last
 
 -- the desk gets the command's settings, its operators are enrolled (`begun`), the port is asked to listen at
@@ -257,7 +257,7 @@ pub record IsNotBegun {A : Type 0} (H : Type 0) (done : Result A ErrorCode) (ser
     (port : Course Traffic) (w after : DeskWorld) : Type 0 where
   pub broken : IsErrAnd done IsLineBreakdown
   pub untaken : port.after ≡ port.before
-  pub listed : AreListedSoFar H serve.desk.enrolments.items (on_terms w serve.desk.terms) after
+  pub listed : AreEnrolledSoFar H serve.desk.enrolments.items (on_terms w serve.desk.terms) after
 
 -- what the command `serve` does at the desk and at the port
 abbrev pub IsAtPort :

@@ -4,9 +4,9 @@ ghost use Rattle.std.specs.Prelude.{◌≡◌, ◌≢◌, None, Some, Err, Ok, I
 ghost use Rattle.std.specs.IoError.{error_kind};
 ghost use Rattle.std.specs.Result.{is_ok};
 ghost use Rattle.std.specs.Time.{system_time_nanos};
-ghost use Rattle.desk_program.specs.Enrolling.{IsWrittenIfRoom};
+ghost use Rattle.desk_program.specs.Enrolling.{IsWrittenAsFarAsPossible};
 ghost use Rattle.desk_program.specs.Serving as spec;
-ghost use Rattle.desk_program.specs.Serving.{IsDenied, Listens, unreported};
+ghost use Rattle.desk_program.specs.Serving.{IsPortError, Listens, unreported};
 ghost use Rattle.desk_program.specs.Waiting.{moment_at};
 
 use crate::port::{ClientStream, EnrolmentSource, ExchangeEnd, Port};
@@ -62,7 +62,7 @@ impl<'s, N: Net, C: Clock, G: EnrolmentSource + Drop, E: Write> LocalPort<'s, N,
     // The stream of the next connection: the one that is waiting, or else the next one accepted. `Network` if
     // the port doesn't listen, or no connection can be accepted.
     fn next_stream(&mut self) -> Result<N::Stream, ErrorCode>
-        ensures { IfErr result IsDenied }
+        ensures { IfErr result IsPortError }
     {
         if let Some(stream) = self.waiting.take() {
             return Ok(stream);
@@ -82,7 +82,7 @@ impl<'s, N: Net, C: Clock, G: EnrolmentSource + Drop, E: Write> Port for LocalPo
     // Opens the port `number` of 127.0.0.1, or reports why it can't be opened.
     fn listen(&mut self, number: u16) -> Result<(), ErrorCode>
         ensures listens { Listens unreported unreported number (is_ok result) }
-        ensures fault { IfErr result IsDenied }
+        ensures fault { IfErr result IsPortError }
         ensures listener { OnOk result (IsSome self.new.listener) }
     {
         match TcpListener::bind(self.net, (Ipv4Addr::LOCALHOST, number)) {
@@ -142,7 +142,7 @@ impl<'s, N: Net, C: Clock, G: EnrolmentSource + Drop, E: Write> Port for LocalPo
 // Reports to `errors` that the port `number` can't be opened, and its `cause`. If memory runs out, nothing is
 // reported; a failed write is ignored.
 fn report_port<E: Write>(alloc: Global, number: u16, cause: &str, errors: &mut E)
-    ensures { IsWrittenIfRoom (spec.port_line number cause.now) (E.contents errors.old)
+    ensures { IsWrittenAsFarAsPossible (spec.port_line number cause.now) (E.contents errors.old)
         (E.contents errors.new) }
 {
     if let Ok(text) = port_text(alloc, number, cause) {
@@ -152,7 +152,7 @@ fn report_port<E: Write>(alloc: Global, number: u16, cause: &str, errors: &mut E
 
 // Writes `line` to `errors`, up to the first write that fails. The write error is ignored.
 fn report_line<E: Write>(line: &str, errors: &mut E)
-    ensures { IsWrittenIfRoom line.now (E.contents errors.old) (E.contents errors.new) }
+    ensures { IsWrittenAsFarAsPossible line.now (E.contents errors.old) (E.contents errors.new) }
 {
     let _ = write_whole(errors, line.as_bytes());
 }
@@ -181,7 +181,7 @@ fn port_cause(kind: ErrorKind) -> &'static str
 // The stream of the next connection. Connections that were aborted before they were accepted are skipped;
 // `Network` after any other error.
 fn accept_from<L: OpenListener>(listener: &L) -> Result<L::Stream, ErrorCode>
-    ensures { IfErr result IsDenied }
+    ensures { IfErr result IsPortError }
 {
     for accepted in listener.incoming() {
         if let Some(stream) = stream_of(accepted)? {
@@ -217,7 +217,7 @@ fn connection_of<'s, T, C: Clock>(
 where
     T: std::io::Read + std::io::Write + OpenStream + Drop,
     ensures moment { IfOk result (λ c. moment_at (system_time_nanos now) ≡ Some c.moment.second) }
-    ensures fault { IfErr result IsDenied }
+    ensures fault { IfErr result IsPortError }
 {
     let Some(moment) = moment_in(now) else {
         return Err(ErrorCode::Clock);

@@ -4,7 +4,7 @@ ghost use Rattle.std.specs.Prelude.{◌≡◌, IfOk, IfErr, OnOk, OnErr};
 ghost use Rattle.std.specs.Result.{is_ok};
 ghost use Rattle.desk_cli.specs.Lines.{AreEnrolments};
 ghost use Rattle.desk_program.specs.Recorded.{IsOpen};
-ghost use Rattle.desk_program.specs.Serving.{BringsNews, Closes, Denies, IsDenied, IsFresh, Listens};
+ghost use Rattle.desk_program.specs.Serving.{BringsEnrolments, Closes, AddsNothingNew, IsPortError, IsFresh, Listens};
 ghost use Rattle.desk_program.specs.Serving.{TakesArrival, Traffic};
 ghost use Rattle.desk_program.specs.Serving.{arrived, parted, unreported};
 
@@ -64,7 +64,7 @@ pub trait Port {
     /// `Network` if the port can't be opened.
     fn listen(&mut self, number: u16) -> Result<(), ErrorCode>
         ensures listens { Listens (traffic self.old) (traffic self.new) number (is_ok result) }
-        ensures fault { IfErr result IsDenied };
+        ensures fault { IfErr result IsPortError };
 
     /// Waits for a connection, which `take` then takes, and returns the new enrolments of the administrator,
     /// which are to be made before its request is carried out.
@@ -75,9 +75,9 @@ pub trait Port {
     fn newly_enrolled(&mut self, alloc: Global) -> Result<Vec<Enrolment>, ErrorCode>
         ensures small { IfOk result (λ newly_enrolled. AreEnrolments newly_enrolled.items) }
         ensures brings { IfOk result (λ newly_enrolled.
-            BringsNews (traffic self.old) (traffic self.new) newly_enrolled.items) }
-        ensures same { OnErr result (Denies (traffic self.old) (traffic self.new)) }
-        ensures fault { IfErr result IsDenied };
+            BringsEnrolments (traffic self.old) (traffic self.new) newly_enrolled.items) }
+        ensures same { OnErr result (AddsNothingNew (traffic self.old) (traffic self.new)) }
+        ensures fault { IfErr result IsPortError };
 
     /// Takes the next connection, to which nothing was sent yet, with the timestamp of its request.
     ///
@@ -89,8 +89,8 @@ pub trait Port {
         ensures taken { IfOk result (λ c. TakesArrival (traffic self.old) (traffic self.new)
             (arrived c.moment.second (Self.Input.remaining c.input))) }
         ensures unsent { IfOk result (λ c. IsFresh (traffic self.old) (Self.Output.contents c.output)) }
-        ensures same { OnErr result (Denies (traffic self.old) (traffic self.new)) }
-        ensures fault { IfErr result IsDenied };
+        ensures same { OnErr result (AddsNothingNew (traffic self.old) (traffic self.new)) }
+        ensures fault { IfErr result IsPortError };
 
     /// Ends a connection, by the outcome of its request. What came after a whole request is discarded first;
     /// the rest of any other request is read for a while, so that the client still gets its answer.
@@ -108,5 +108,5 @@ pub trait Port {
         ensures closed { Closes (traffic self.old) (traffic self.new)
             (parted (Self.Input.remaining input) (Self.Output.contents output) outcome) }
         ensures recorded { OnOk result (IsOpen (traffic self.new).recorded) }
-        ensures fault { IfErr result IsDenied };
+        ensures fault { IfErr result IsPortError };
 }

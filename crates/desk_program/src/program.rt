@@ -12,8 +12,8 @@ ghost use Rattle.desk_rules.specs.Limits.{max_priority};
 ghost use Rattle.desk_cli.specs.Lines.{AreEnrolments, IsPlay};
 ghost use Rattle.desk_program.specs.EndCauses.{HasCause};
 ghost use Rattle.desk_program.specs.Enrolling as enrolling;
-ghost use Rattle.desk_program.specs.Enrolling.{HasListed, HasListedNews, on_terms};
-ghost use Rattle.desk_program.specs.Keeping.{FindsEnrolled, FindsListed, FindsNews, IsPlayKept};
+ghost use Rattle.desk_program.specs.Enrolling.{HasEnrolled, HasEnrolledNew, on_terms};
+ghost use Rattle.desk_program.specs.Keeping.{FindsEnrolled, FindsEnrolments, FindsNewEnrolments, IsPlayKept};
 ghost use Rattle.desk_program.specs.Outside.{bytes_written, ended};
 ghost use Rattle.desk_program.specs.PlayLines.{IsEnrolled, IsPlayDone, done_unless};
 
@@ -132,9 +132,9 @@ pub fn set_up<S: PlanStore>(
     enrolments: &[Enrolment],
 ) -> Result<(), DeskFault>
     requires { AreEnrolments enrolments.now }
-    ensures listed { HasListed (IsHonest (S.doubt desk.new.store)) result enrolments.now
+    ensures listed { HasEnrolled (IsHonest (S.doubt desk.new.store)) result enrolments.now
         (on_terms (world_of S.content desk.old) terms.now) (world_of S.content desk.new) }
-    ensures kept { FindsOnly S.PlanStore desk.old desk.new (FindsListed
+    ensures kept { FindsOnly S.PlanStore desk.old desk.new (FindsEnrolments
         (IsHonest (S.doubt desk.new.store)) result enrolments.now
         (on_terms (world_of S.content desk.old) terms.now) (world_of S.content desk.new)) }
     ensures fault { IfErr result IsBreakdown }
@@ -156,9 +156,9 @@ pub fn enrol_new<S: PlanStore>(
     new_enrolments: &[Enrolment],
 ) -> Result<(), DeskFault>
     requires { AreEnrolments new_enrolments.now }
-    ensures listed { HasListedNews (IsHonest (S.doubt desk.new.store)) result new_enrolments.now
+    ensures listed { HasEnrolledNew (IsHonest (S.doubt desk.new.store)) result new_enrolments.now
         (world_of S.content desk.old) (world_of S.content desk.new) }
-    ensures found { IsHonest (S.doubt desk.new.store) → FindsNews result new_enrolments.now
+    ensures found { IsHonest (S.doubt desk.new.store) → FindsNewEnrolments result new_enrolments.now
         (world_of S.content desk.old) (world_of S.content desk.new) (S.may_leave desk.old.store)
         (S.may_leave desk.new.store) }
     ensures fault { IfErr result IsBreakdown }
@@ -175,9 +175,9 @@ pub fn enrol_new<S: PlanStore>(
 // `OutOfMemory` or `Store`, the operators before it stay enrolled.
 fn enrol_all<S: PlanStore>(desk: &mut Desk<S>, enrolments: &[Enrolment]) -> Result<(), DeskFault>
     requires { AreEnrolments enrolments.now }
-    ensures listed { HasListed (IsHonest (S.doubt desk.new.store)) result enrolments.now
+    ensures listed { HasEnrolled (IsHonest (S.doubt desk.new.store)) result enrolments.now
         (world_of S.content desk.old) (world_of S.content desk.new) }
-    ensures found { IsHonest (S.doubt desk.new.store) → FindsNews result enrolments.now
+    ensures found { IsHonest (S.doubt desk.new.store) → FindsNewEnrolments result enrolments.now
         (world_of S.content desk.old) (world_of S.content desk.new) (S.may_leave desk.old.store)
         (S.may_leave desk.new.store) }
     ensures fault { IfErr result IsBreakdown }

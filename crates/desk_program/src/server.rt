@@ -6,7 +6,7 @@ ghost use Rattle.desk_store.specs.StoreFrames.{Remembers};
 ghost use Rattle.desk_store.specs.StoreFaults.{IsHonest};
 ghost use Rattle.desk_cli.specs.Exits.{IsAnnounced, failure_at};
 ghost use Rattle.desk_cli.specs.Lines.{IsPlay, IsServe};
-ghost use Rattle.desk_cli.specs.Written.{HasBegun};
+ghost use Rattle.desk_cli.specs.Written.{IsPartlyWritten};
 ghost use Rattle.desk_run.specs.DeskFrames.{FindsOnly};
 ghost use Rattle.desk_run.specs.DeskWorld.{world_of};
 ghost use Rattle.desk_wire.specs.Passage.{course};
@@ -15,7 +15,7 @@ ghost use Rattle.desk_program.specs.PortPlays.{IsInputKept, IsInputPlayed};
 ghost use Rattle.desk_program.specs.Keeping.{AreKept, IsPortKept, IsServeKept};
 ghost use Rattle.desk_program.specs.Outside.{bytes_written, ended};
 ghost use Rattle.desk_program.specs.Serving as spec;
-ghost use Rattle.desk_program.specs.Serving.{IsAskedToListen, IsAtPort, IsDenied, IsLineServed, failing};
+ghost use Rattle.desk_program.specs.Serving.{IsAskedToListen, IsAtPort, IsPortError, IsLineServed, error_in};
 ghost use Rattle.desk_program.specs.Serving.{PrintsIfListening, first_failure, listening_line};
 
 use crate::port::{ClientStream, ExchangeEnd, Port};
@@ -94,7 +94,7 @@ fn listen<P: Port, W: Write>(
     number: u16,
     output: &mut W,
 ) -> Result<(), ErrorCode>
-    ensures fault { IfErr result IsDenied }
+    ensures fault { IfErr result IsPortError }
     ensures listens { IsAskedToListen (P.traffic port.old) (P.traffic port.new) number }
     ensures heard { PrintsIfListening (course (P.traffic port.old) (P.traffic port.new)) number
         (course (W.contents output.old) (W.contents output.new)) }
@@ -111,7 +111,7 @@ fn listen<P: Port, W: Write>(
 fn print_text<W: Write>(output: &mut W, text: &str) -> Result<(), ErrorCode>
     ensures ok { OnOk result (Appends (W.contents output.old) (W.contents output.new) text.now) }
     ensures err { IfErr result (λ f. (f ≡ ErrorCode.Write)
-        × HasBegun text.now (W.contents output.old) (W.contents output.new)) }
+        × IsPartlyWritten text.now (W.contents output.old) (W.contents output.new)) }
 {
     write_whole(output, text.as_bytes())?;
     Ok(())
@@ -211,7 +211,7 @@ fn exchange_result(
     served: Result<Served, ServeFault>,
     closed: Result<(), ErrorCode>,
 ) -> Result<(), ErrorCode>
-    ensures { failing result ≡ first_failure (failure_at served) (failing closed) }
+    ensures { error_in result ≡ first_failure (failure_at served) (error_in closed) }
 {
     match failure_of(served) {
         None => closed,

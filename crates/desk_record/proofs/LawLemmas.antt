@@ -4,7 +4,7 @@ use Rattle.std.specs.List.{AllByRecursion}
 use Rattle.std.proofs.lemmas.List.{take_at, append_cancel_left, take-take, length-take-le}
 use Rattle.std.proofs.lemmas.Bool.{cases_lt}
 use Rattle.desk_record.specs.Record.{EntryParts, Fits, entries, entry}
-use Rattle.desk_record.specs.EntryLines.{IsEntryLine, line_in}
+use Rattle.desk_record.specs.EntryLines.{IsEntryLine, parsed_line}
 use Rattle.desk_record.specs.Reading.{IsTooShort}
 use Rattle.desk_record.proofs.LineLemmas.{line_read}
 use Rattle.desk_record.proofs.ReadLemmas.{entry_length, is_its_line, its_bytes, line_is_read, line_of, some_same}
@@ -13,7 +13,7 @@ module _ (e other : EntryParts) (rest left : List ℕ) (fits : Fits e) (other_fi
     (same : entry e ++ rest ≡ entry other ++ left) where
   one_line : line_of e ≡ line_of other
   one_line =
-      some_same (sym (line_is_read e rest fits) ∙ ap (λ x. line_in (take 86 x)) same
+      some_same (sym (line_is_read e rest fits) ∙ ap (λ x. parsed_line (take 86 x)) same
       ∙ line_is_read other left other_fits)
 
   behind : e.bytes ++ (10 ∷ rest) ≡ other.bytes ++ (10 ∷ left)

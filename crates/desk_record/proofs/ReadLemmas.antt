@@ -8,8 +8,8 @@ use Rattle.std.specs.Io.KnownBytes.{Consumes, IsAtEnd}
 use Rattle.std.proofs.lemmas.Slice.Eq.{bytes_eq-Decides}
 use Rattle.std.proofs.lemmas.List.{take_at, drop_at, length-take-le, length-drop, append_cancel_left}
 use Rattle.desk_record.specs.Record.{EntryParts, Fits, entry, line, sum}
-use Rattle.desk_record.specs.EntryLines.{IsEntryLine, LineParts, kind_of, line_in, line_parts_in, line_said, number_from}
-use Rattle.desk_record.specs.Reading.{IsDamagedRecord, IsTooShort, has_bytes}
+use Rattle.desk_record.specs.EntryLines.{IsEntryLine, LineParts, kind_of, parsed_line, parsed_line_fields, line_of_parts, number_from}
+use Rattle.desk_record.specs.Reading.{IsDamagedRecord, IsTooShort, are_bytes_intact}
 use Rattle.desk_record.proofs.DigitLemmas.{read_fits}
 use Rattle.desk_record.proofs.LineLemmas.{length_line, length_sum, line_read}
 
@@ -18,20 +18,20 @@ abbrev pub line_of : EntryParts → LineParts
 line_of e = record { kind = e.kind; number = e.number; size = length e.bytes; sum = sum e.bytes }
 
 module _ (e : EntryParts) (rest : List ℕ) where
-  pub behind_line : entry e ++ rest ≡ line_said (line_of e) ++ (e.bytes ++ (10 ∷ rest))
+  pub behind_line : entry e ++ rest ≡ line_of_parts (line_of e) ++ (e.bytes ++ (10 ∷ rest))
   unfolding entry
   behind_line = simp append_assoc
 
-  line_length : length (line_said (line_of e)) ≡ 86
+  line_length : length (line_of_parts (line_of e)) ≡ 86
   line_length = length_line (line_of e) (length_sum e.bytes)
 
-  pub its_line : take 86 (entry e ++ rest) ≡ line_said (line_of e)
+  pub its_line : take 86 (entry e ++ rest) ≡ line_of_parts (line_of e)
   its_line = ap (take 86) behind_line
-      ∙ take_at (line_said (line_of e)) (e.bytes ++ (10 ∷ rest)) 86 line_length
+      ∙ take_at (line_of_parts (line_of e)) (e.bytes ++ (10 ∷ rest)) 86 line_length
 
   pub its_bytes : drop 86 (entry e ++ rest) ≡ e.bytes ++ (10 ∷ rest)
   its_bytes = ap (drop 86) behind_line
-      ∙ drop_at (line_said (line_of e)) (e.bytes ++ (10 ∷ rest)) 86 line_length
+      ∙ drop_at (line_of_parts (line_of e)) (e.bytes ++ (10 ∷ rest)) 86 line_length
 
   pub is_its_line : Fits e → IsEntryLine (take 86 (entry e ++ rest)) (line_of e)
   is_its_line fits = record {
@@ -46,19 +46,19 @@ module _ (e : EntryParts) (rest : List ℕ) where
       let long = line_length in
       ap length behind_line ∙ simp length-append (omega (arith, long))
 
-  pub line_is_read : Fits e → line_in (take 86 (entry e ++ rest)) ≡ Some (line_of e)
+  pub line_is_read : Fits e → parsed_line (take 86 (entry e ++ rest)) ≡ Some (line_of e)
   line_is_read fits = line_read _ (line_of e) (is_its_line fits)
 
 -- what is read as a line is one
-pub is_line : (bytes : List ℕ) (l : LineParts) → length bytes ≡ 86 → line_in bytes ≡ Some l
+pub is_line : (bytes : List ℕ) (l : LineParts) → length bytes ≡ 86 → parsed_line bytes ≡ Some l
     → IsEntryLine bytes l
-unfolding line_in line_parts_in
+unfolding parsed_line parsed_line_fields
 is_line bytes l long e =
     by_kind (kind_of (take 9 bytes)) (number_from 0 (take 20 (drop 10 bytes)))
     (number_from 0 (take 20 (drop 31 bytes))) refl refl e where
       by_kind : (k : Option _) (n size : Option ℕ) → number_from 0 (take 20 (drop 10 bytes)) ≡ n
           → number_from 0 (take 20 (drop 31 bytes)) ≡ size
-          → option_and_then (λ l. if bytes_eq (line_said l) bytes then Some l else None)
+          → option_and_then (λ l. if bytes_eq (line_of_parts l) bytes then Some l else None)
           (option_and_then (λ reported. option_and_then (λ n. option_and_then (λ size.
           Some (record { kind = reported; number = n; size = size; sum = take 16 (drop 52 bytes) })) size) n) k)
           ≡ Some l → IsEntryLine bytes l
@@ -67,19 +67,19 @@ is_line bytes l long e =
       by_kind (Some k) (Some n) None is_n is_size f = cc
       by_kind (Some k) (Some n) (Some size) is_n is_size f =
           by_text (record { kind = k; number = n; size = size; sum = take 16 (drop 52 bytes) })
-          (bytes_eq (line_said
+          (bytes_eq (line_of_parts
           (record { kind = k; number = n; size = size; sum = take 16 (drop 52 bytes) })) bytes)
           refl f (read_fits 0 (take 20 (drop 10 bytes)) n (omega arith) is_n)
           (read_fits 0 (take 20 (drop 31 bytes)) size (omega arith) is_size)
           (length-take-le 16 (drop 52 bytes) (omega (arith, length-drop 52 bytes, long))) where
-            by_text : (m : LineParts) (same : Bool) → bytes_eq (line_said m) bytes ≡ same
+            by_text : (m : LineParts) (same : Bool) → bytes_eq (line_of_parts m) bytes ≡ same
                 → (if same then Some m else None) ≡ Some l
                 → m.number < 2 ^ 64 → m.size < 2 ^ 64 → length m.sum ≡ 16 → IsEntryLine bytes l
             by_text m false same f number size sum = cc
             by_text m true same f number size sum =
                 let is : m ≡ l = cc in
                 subst (IsEntryLine bytes) is (record {
-                  text = sym ((bytes_eq-Decides (line_said m) bytes).0 same);
+                  text = sym ((bytes_eq-Decides (line_of_parts m) bytes).0 same);
                   number = number;
                   size = size;
                   sum = sum;
@@ -100,28 +100,28 @@ all_of false b c e = cc
 -- 86 bytes were taken
 module _ (old mid : Option (List ℕ)) (text : List ℕ) (first : Consumes old mid text)
     (long : length text ≡ 86) where
-  pub not_line : line_in text ≡ None → IfSome old IsDamagedRecord
+  pub not_line : parsed_line text ≡ None → IfSome old IsDamagedRecord
   not_line none = by_known old mid first where
     by_known : (old mid : Option (List ℕ)) → Consumes old mid text → IfSome old IsDamagedRecord
     by_known None mid first = tt
     by_known (Some s) None first = absurd first
     by_known (Some s) (Some r) first =
-        let front : take 86 s ≡ text = ap (take 86) first ∙ take_at text r 86 long in
+        let line_fields : take 86 s ≡ text = ap (take 86) first ∙ take_at text r 86 long in
         let len = ap length first ∙ length-append text r in
         record {
           some = omega (arith, len, long);
           whole = λ h. elim h.short [
             | inl w ↦ omega (arith, len, long, w)
-            | inr w ↦ (let read = line_read (take 86 s) w.line w.first in cc (none, front))
+            | inr w ↦ (let read = line_read (take 86 s) w.line w.first in cc (none, line_fields))
           ];
           none = λ e rest fits is.
               let read = line_is_read e rest fits in
-              let same : take 86 (entry e ++ rest) ≡ text = ap (take 86) (sym is) ∙ front in
+              let same : take 86 (entry e ++ rest) ≡ text = ap (take 86) (sym is) ∙ line_fields in
               cc (none, read);
         }
 
   -- a line, and some of its bytes
-  module _ (l : LineParts) (read : line_in text ≡ Some l) (m2 new : Option (List ℕ)) (bytes last : List ℕ)
+  module _ (l : LineParts) (read : parsed_line text ≡ Some l) (m2 new : Option (List ℕ)) (bytes last : List ℕ)
       (then_ : Consumes mid m2 bytes) (within : length bytes ≤ l.size) (end : Consumes m2 new last) where
     all_taken : (old mid m2 new : Option (List ℕ)) → Consumes old mid text → Consumes mid m2 bytes
         → Consumes m2 new last → (P : List ℕ → Type 0)
@@ -148,24 +148,24 @@ module _ (old mid : Option (List ℕ)) (text : List ℕ) (first : Consumes old m
           short : (rest : List ℕ) → length rest ≡ 0 → IsTooShort (text ++ (bytes ++ (last ++ rest)))
           short rest no_more =
               let len = all_length rest in
-              let front = the_line (bytes ++ (last ++ rest)) in
+              let line_fields = the_line (bytes ++ (last ++ rest)) in
               record {
                 some = omega (arith, len);
                 short = inr (record {
                   line = l;
-                  first = subst (λ x. IsEntryLine x l) (sym front) (is_line text l long read);
+                  first = subst (λ x. IsEntryLine x l) (sym line_fields) (is_line text l long read);
                   lacks = omega (arith, len, within, none, no_more);
                 });
               }
 
     -- the bytes of an entry that begins so
     its_parts : (rest : List ℕ) → length bytes ≡ l.size → length last ≡ 1 → (e : EntryParts) (more : List ℕ)
-        → Fits e → text ++ (bytes ++ (last ++ rest)) ≡ entry e ++ more → has_bytes l bytes last ≡ true
+        → Fits e → text ++ (bytes ++ (last ++ rest)) ≡ entry e ++ more → are_bytes_intact l bytes last ≡ true
     its_parts rest whole one e more fits is =
         let found = line_is_read e more fits in
-        let front : take 86 (entry e ++ more) ≡ text =
+        let line_fields : take 86 (entry e ++ more) ≡ text =
         ap (take 86) (sym is) ∙ the_line (bytes ++ (last ++ rest)) in
-        let same : line_of e ≡ l = some_same (sym found ∙ ap line_in front ∙ read) in
+        let same : line_of e ≡ l = some_same (sym found ∙ ap parsed_line line_fields ∙ read) in
         let size : length bytes ≡ length e.bytes = whole ∙ sym (ap (λ x. x.size) same) in
         let behind : bytes ++ (last ++ rest) ≡ e.bytes ++ (10 ∷ more) =
         sym (drop_at text (bytes ++ (last ++ rest)) 86 long) ∙ ap (drop 86) is ∙ its_bytes e more in
@@ -181,7 +181,7 @@ module _ (old mid : Option (List ℕ)) (text : List ℕ) (first : Consumes old m
         (eq-eqb (length bytes) l.size whole)
         ((bytes_eq-Decides (sum bytes) l.sum).1 sums) ((bytes_eq-Decides last (10 ∷ [])).1 feed)
 
-    pub unsound : has_bytes l bytes last ≡ false → (length last ≡ 0 → ⊥) → length last ≤ 1
+    pub unsound : are_bytes_intact l bytes last ≡ false → (length last ≡ 0 → ⊥) → length last ≤ 1
         → (length bytes < l.size → IsAtEnd m2) → IfSome old IsDamagedRecord
     unsound wrong some low at_end =
         all_taken old mid m2 new first then_ end IsDamagedRecord (λ rest is ends. damaged rest is) where
@@ -207,7 +207,7 @@ module _ (old mid : Option (List ℕ)) (text : List ℕ) (first : Consumes old m
                   | inr w ↦ (let found =
                       line_read (take 86 (text ++ (bytes ++ (last ++ rest)))) w.line w.first in
                       let same : w.line ≡ l =
-                      some_same (sym found ∙ ap line_in (the_line (bytes ++ (last ++ rest))) ∙ read) in
+                      some_same (sym found ∙ ap parsed_line (the_line (bytes ++ (last ++ rest))) ∙ read) in
                       let size : w.line.size ≡ l.size = ap (λ x. x.size) same in
                       omega (arith, len, w.lacks, size, whole, one))
                 ];
@@ -215,7 +215,7 @@ module _ (old mid : Option (List ℕ)) (text : List ℕ) (first : Consumes old m
                     (let right = its_parts rest whole one e more fits equal in cc (wrong, right));
               }
 
-    pub sound : has_bytes l bytes last ≡ true
+    pub sound : are_bytes_intact l bytes last ≡ true
         → Consumes old new (entry (record { kind = l.kind; number = l.number; bytes = bytes }))
     unfolding entry
     sound right =

@@ -38,16 +38,16 @@ pub record LineParts : Type 0 where
   pub sum : List ℕ
 
 -- the fields of the program's value of a line
-abbrev pub line_shown : Line → LineParts
-line_shown l = record { kind = l.kind; number = l.number; size = l.size; sum = l.sum.items }
+abbrev pub line_parts : Line → LineParts
+line_parts l = record { kind = l.kind; number = l.number; size = l.size; sum = l.sum.items }
 
 -- the text of the line that has these fields
-abbrev pub line_said : LineParts → List ℕ
-line_said l = line l.kind l.number l.size l.sum
+abbrev pub line_of_parts : LineParts → List ℕ
+line_of_parts l = line l.kind l.number l.size l.sum
 
 -- the fields that stand at their places in the bytes of a line; the line's own checksum is not looked at
-unfoldable pub line_parts_in : List ℕ → Option LineParts
-line_parts_in bytes =
+unfoldable pub parsed_line_fields : List ℕ → Option LineParts
+parsed_line_fields bytes =
     option_and_then (λ reported.
     option_and_then (λ n.
     option_and_then (λ size.
@@ -57,14 +57,14 @@ line_parts_in bytes =
     (kind_of (take 9 bytes))
 
 -- the fields of these bytes, if the line with these fields has just this text
-unfoldable pub line_in : List ℕ → Option LineParts
-line_in bytes =
-    option_and_then (λ l. if bytes_eq (line_said l) bytes then Some l else None)
-    (line_parts_in bytes)
+unfoldable pub parsed_line : List ℕ → Option LineParts
+parsed_line bytes =
+    option_and_then (λ l. if bytes_eq (line_of_parts l) bytes then Some l else None)
+    (parsed_line_fields bytes)
 
 -- the bytes are the line with the fields l, its numbers fit 64 bits, and its checksum has sixteen digits
 pub record IsEntryLine (bytes : List ℕ) (l : LineParts) : Type 0 where
-  pub text : bytes ≡ line_said l
+  pub text : bytes ≡ line_of_parts l
   pub number : l.number < 2 ^ 64
   pub size : l.size < 2 ^ 64
   pub sum : length l.sum ≡ 16

@@ -8,8 +8,8 @@ use Rattle.desk_record.specs.EntryLines.{IsEntryLine, LineParts}
 use Rattle.desk_record.specs.Record.{EntryParts, Fits, entry, sum}
 
 -- the parts of the program's value of an entry
-abbrev pub entry_shown : Entry → EntryParts
-entry_shown e = record { kind = e.kind; number = e.number; bytes = e.bytes.items }
+abbrev pub entry_parts : Entry → EntryParts
+entry_parts e = record { kind = e.kind; number = e.number; bytes = e.bytes.items }
 
 -- a text begins with a whole line; after it, it has fewer bytes than the line says and the line feed
 pub record LacksBytes (text : List ℕ) : Type 0 where
@@ -30,16 +30,16 @@ pub record IsDamagedRecord (text : List ℕ) : Type 0 where
   pub none : (e : EntryParts) (rest : List ℕ) → Fits e → text ≢ entry e ++ rest
 
 -- the bytes after a line have the length and the checksum that it says, and what follows them is a line feed
-abbrev pub has_bytes : LineParts → List ℕ → List ℕ → Bool
-has_bytes line bytes last =
+abbrev pub are_bytes_intact : LineParts → List ℕ → List ℕ → Bool
+are_bytes_intact line bytes last =
     (length bytes == line.size) && (bytes_eq (sum bytes) line.sum && bytes_eq last (10 ∷ []))
 
 -- the fault isn't in the bytes: a read failed, or memory ran out
-abbrev pub IsFailure : ReadFault → Type 0
-IsFailure Read = ⊤
-IsFailure OutOfMemory = ⊤
-IsFailure CutShort = ⊥
-IsFailure NoRecord = ⊥
+abbrev pub IsReadFailure : ReadFault → Type 0
+IsReadFailure Read = ⊤
+IsReadFailure OutOfMemory = ⊤
+IsReadFailure CutShort = ⊥
+IsReadFailure NoRecord = ⊥
 
 -- why no entry was read from the bytes that were left: a read failed or memory ran out, whatever they were;
 -- or they are too short, or damaged

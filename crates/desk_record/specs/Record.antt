@@ -32,14 +32,14 @@ sum bytes = encode_lower (take 8 (sha256 bytes))
 
 -- what a line says before its own checksum: the word of the kind, the number, how many bytes the entry has,
 -- and their checksum, each with a blank after it
-unfoldable pub front : Kind → ℕ → ℕ → List ℕ → List ℕ
-front reported n size check =
+unfoldable pub line_fields : Kind → ℕ → ℕ → List ℕ → List ℕ
+line_fields reported n size check =
     word reported ++ (32 ∷ (number n ++ (32 ∷ (number size ++ (32 ∷ (check ++ (32 ∷ [])))))))
 
 -- a line: these fields, the checksum of their text, and a line feed
 unfoldable pub line : Kind → ℕ → ℕ → List ℕ → List ℕ
 line reported n size check =
-    front reported n size check ++ (sum (front reported n size check) ++ (10 ∷ []))
+    line_fields reported n size check ++ (sum (line_fields reported n size check) ++ (10 ∷ []))
 
 -- an entry: its kind, its number and its own bytes
 pub record EntryParts : Type 0 where

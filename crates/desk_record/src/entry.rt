@@ -2,7 +2,7 @@
 
 ghost use Rattle.std.specs.Prelude.{◌≡◌, ◌++◌, IfOk, OnErr, OnOk};
 ghost use Rattle.desk_record.specs.Record.{entry};
-ghost use Rattle.desk_record.specs.Reading.{entry_shown};
+ghost use Rattle.desk_record.specs.Reading.{entry_parts};
 
 use crate::kind::Kind;
 use crate::line::{Line, line_text};

@@ -2,8 +2,8 @@
 
 ghost use Rattle.std.specs.Prelude.{◌≡◌, ◌++◌, IfOk, OnOk, length};
 ghost use Rattle.std.specs.Option.{option_map};
-ghost use Rattle.desk_record.specs.Record.{front, line, sum};
-ghost use Rattle.desk_record.specs.EntryLines.{line_in, line_parts_in, line_said, line_shown};
+ghost use Rattle.desk_record.specs.Record.{line_fields, line, sum};
+ghost use Rattle.desk_record.specs.EntryLines.{parsed_line, parsed_line_fields, line_of_parts, line_parts};
 
 use crate::kind::{Kind, parse_kind};
 use crate::numbers::{parse_number, write_number};
@@ -31,7 +31,7 @@ pub struct Line {
 /// `AllocError` if memory runs out.
 #[tactic(auto, unfolding(crate::specs::Record::line))]
 pub fn line_text(alloc: Global, line: &Line) -> Result<Vec<u8>, AllocError>
-    ensures { IfOk result (λ text. text.items ≡ line_said (line_shown line.now)) }
+    ensures { IfOk result (λ text. text.items ≡ line_of_parts (line_parts line.now)) }
 {
     let mut text = Vec::with_capacity(alloc, LINE_LEN)?;
     write_line_fields(&mut text, line)?;
@@ -45,7 +45,7 @@ pub fn line_text(alloc: Global, line: &Line) -> Result<Vec<u8>, AllocError>
 // If memory runs out, a part of them may be appended.
 fn write_line_fields(text: &mut Vec<u8>, line: &Line) -> Result<(), AllocError>
     ensures { OnOk result (text.new.items ≡ text.old.items
-        ++ front line.now.kind line.now.number line.now.size line.now.sum.items) }
+        ++ line_fields line.now.kind line.now.number line.now.size line.now.sum.items) }
 {
     text.extend_from_slice(line.kind.word())?;
     text.extend_from_slice(b" ")?;
@@ -64,10 +64,10 @@ fn write_line_fields(text: &mut Vec<u8>, line: &Line) -> Result<(), AllocError>
 /// # Errors
 ///
 /// `AllocError` if memory runs out.
-#[tactic(auto, unfolding(crate::specs::EntryLines::line_in))]
+#[tactic(auto, unfolding(crate::specs::EntryLines::parsed_line))]
 pub fn read_line(alloc: Global, bytes: &[u8]) -> Result<Option<Line>, AllocError>
     requires { length bytes.now ≡ 86 }
-    ensures { IfOk result (λ found. option_map line_shown found ≡ line_in bytes.now) }
+    ensures { IfOk result (λ found. option_map line_parts found ≡ parsed_line bytes.now) }
 {
     let Some(line) = parse_line_fields(alloc, bytes)? else {
         return Ok(None);
@@ -82,10 +82,10 @@ pub fn read_line(alloc: Global, bytes: &[u8]) -> Result<Option<Line>, AllocError
 // Parses the fields of a line by their places: the kind at byte 0, the number at 10, the size at 31 and the
 // entry's checksum at 52. The line's own checksum and its blanks aren't checked here. `None` if the kind or
 // one of the numbers is invalid.
-#[tactic(auto, unfolding(crate::specs::EntryLines::line_parts_in))]
+#[tactic(auto, unfolding(crate::specs::EntryLines::parsed_line_fields))]
 fn parse_line_fields(alloc: Global, bytes: &[u8]) -> Result<Option<Line>, AllocError>
     requires { length bytes.now ≡ 86 }
-    ensures { IfOk result (λ found. option_map line_shown found ≡ line_parts_in bytes.now) }
+    ensures { IfOk result (λ found. option_map line_parts found ≡ parsed_line_fields bytes.now) }
 {
     let Some(kind) = parse_kind(&bytes[..9]) else {
         return Ok(None);

@@ -4,8 +4,8 @@ ghost use Rattle.std.specs.Prelude.{◌≡◌, ◌≤◌, ◌<◌, None, length,
 ghost use Rattle.std.specs.Io.{ReadsAtMost};
 ghost use Rattle.std.specs.Io.KnownBytes.{Consumes, IsAtEnd};
 ghost use Rattle.desk_record.specs.Record.{Fits, entry};
-ghost use Rattle.desk_record.specs.EntryLines.{line_shown};
-ghost use Rattle.desk_record.specs.Reading.{IsFailure, LacksEntry, entry_shown, has_bytes};
+ghost use Rattle.desk_record.specs.EntryLines.{line_parts};
+ghost use Rattle.desk_record.specs.Reading.{IsReadFailure, LacksEntry, entry_parts, are_bytes_intact};
 
 use crate::entry::Entry;
 use crate::line::{LINE_LEN, Line, read_line};
@@ -53,8 +53,8 @@ impl From<AllocError> for ReadFault {
 /// input was read then isn't specified.
 pub fn read_entry<R: Read>(alloc: Global, input: &mut R) -> Result<Option<Entry>, ReadFault>
     ensures entry { IfOk result (λ found. IfSome found (λ e.
-        Consumes (R.remaining input.old) (R.remaining input.new) (entry (entry_shown e)))) }
-    ensures fits { IfOk result (λ found. IfSome found (λ e. Fits (entry_shown e))) }
+        Consumes (R.remaining input.old) (R.remaining input.new) (entry (entry_parts e)))) }
+    ensures fits { IfOk result (λ found. IfSome found (λ e. Fits (entry_parts e))) }
     ensures end { IfOk result (λ found. found ≡ None → IsAtEnd (R.remaining input.old)) }
     ensures fault { IfErr result (LacksEntry (R.remaining input.old)) }
 {
@@ -88,7 +88,7 @@ pub fn read_entry<R: Read>(alloc: Global, input: &mut R) -> Result<Option<Entry>
 // a line feed. Fails if memory runs out.
 #[tactic(auto, unfolding(crate::specs::Record::entry))]
 fn is_intact(alloc: Global, line: &Line, bytes: &[u8], last: &[u8]) -> Result<bool, AllocError>
-    ensures { IfOk result (λ sound. sound ≡ has_bytes (line_shown line.now) bytes.now last.now) }
+    ensures { IfOk result (λ sound. sound ≡ are_bytes_intact (line_parts line.now) bytes.now last.now) }
 {
     let sum = checksum(alloc, bytes)?;
     Ok(bytes.len() as u64 == line.size && sum == line.sum && last == b"\n".as_slice())
@@ -101,7 +101,7 @@ fn read_up_to<R: Read>(alloc: Global, input: &mut R, size: u64) -> Result<Vec<u8
         Consumes (R.remaining input.old) (R.remaining input.new) text.items) }
     ensures within { IfOk result (λ text. length text.items ≤ size) }
     ensures end { IfOk result (λ text. length text.items < size → IsAtEnd (R.remaining input.new)) }
-    ensures fault { IfErr result IsFailure }
+    ensures fault { IfErr result IsReadFailure }
 {
     let mut text = Vec::new(alloc);
     let mut chunk = [0u8; CHUNK];
@@ -128,7 +128,7 @@ fn read_retrying<R: Read>(input: &mut R, room: &mut [u8]) -> Result<usize, ReadF
     ensures taken { IfOk result (λ n.
         Consumes (R.remaining input.old) (R.remaining input.new) (take n room.new)) }
     ensures end { IfOk result (λ n. n ≡ 0 → 0 < length room.new → IsAtEnd (R.remaining input.new)) }
-    ensures fault { IfErr result IsFailure }
+    ensures fault { IfErr result IsReadFailure }
 {
     for _ in 0..MAX_TRIES {
         match input.read(room) {

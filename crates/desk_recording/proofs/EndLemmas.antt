@@ -24,7 +24,7 @@ use Rattle.desk_cli.specs.declared.line.Enrolment.{Enrolment}
 use Rattle.desk_program.specs.Enrolling.{AreEnrolled, with_operators}
 use Rattle.desk_program.specs.Keeping.{IsFoundServed, IsLeftByNews, IsLeftUncertain}
 use Rattle.desk_program.specs.Recorded.{AreNamed, Ended, IsAnswerRecorded, IsRecorded, Noted, Open, Recorded, RecordsAnswer, RecordsNone, RecordsRequest, answer_entry, operator_entry, request_entry, with_answer, with_news, with_request}
-use Rattle.desk_program.specs.Serving.{AreNoted, AreServed, AreTaken, EndsAfter, EndsDeskBy, Exchange, IsLastNews, Traffic, outcome_of, passage_of}
+use Rattle.desk_program.specs.Serving.{AreNoted, AreServed, AreTaken, EndsAfter, EndsDeskBy, Exchange, IsLastEnrolments, Traffic, outcome_of, passage_of}
 use Rattle.desk_replay.specs.Replaying.{State, played, taken}
 use Rattle.desk_recording.specs.Played.{AddsPlayed, CatchesUp, EndsAs, EndsFound, EndsPlayed, IsPlayedTo, IsUnanswered, caught_up, entries_of, known, pair_of}
 use Rattle.desk_recording.proofs.ExchangeLemmas.{IsGivenUp, IsLeft, are_asked, is_certain, left_next, is_given_up, is_left, low_second, same_second, some_failure}
@@ -163,7 +163,7 @@ news_end n now newly_enrolled later s w left small named none is at = record {
 }
 
 last_news_end : (H : Type 0) (h : H) (done : Result ⊤ ErrorCode) (n : Noted) (now : Option Recorded)
-    (newly_enrolled : List Enrolment) (s : State) (w left : DeskWorld) → IsLastNews H (Some newly_enrolled) done w left
+    (newly_enrolled : List Enrolment) (s : State) (w left : DeskWorld) → IsLastEnrolments H (Some newly_enrolled) done w left
     → AreEnrolments newly_enrolled → AreNamed newly_enrolled → RecordsNone (Some (Open (with_news n newly_enrolled))) now → IsPlayedTo s w
     → EndsPlayed n now [] (Some newly_enrolled) s left
 last_news_end H h (Ok d) n now newly_enrolled s w left last small named none at = absurd last
@@ -421,7 +421,7 @@ lost_last text (x ∷ xs) last now noted = absurd noted.3.newly_enrolled
 
 last_left : (H : Type 0) (done : Result ⊤ ErrorCode) (xs : List Exchange) (last : Option (List Enrolment))
     (v between left : DeskWorld) → xs ≡ [] → last ≡ None → AreServed H xs v between
-    → IsLastNews H last done between left → left ≡ v
+    → IsLastEnrolments H last done between left → left ≡ v
 last_left H done [] None v between left empty without served is = is ∙ served
 last_left H done [] (Some newly_enrolled) v between left empty without served is = cc
 last_left H done (x ∷ xs) last v between left empty without served is = cc
@@ -439,7 +439,7 @@ module _ (H : Type 0) (h : H) (Ends : (request rest : List ℕ) → IsRequest re
       ⊎ (answered ≡ Some (Ended (with_request (with_news n x.newly_enrolled) x.arrival.moment request).text))
       → IfSome answered (λ recorded. failure_at x.served ≢ None → now ≡ answered)
       → AreNoted answered xs last now → OnlyLast (x ∷ xs) last → AreServed H xs v between
-      → IsLastNews H last done between left
+      → IsLastEnrolments H last done between left
       → ((k : Noted) (t : State) → AreNoted (Some (Open k)) xs last now → OnlyLast xs last → IsPlayedTo t v
       → EndsPlayed k now xs last t left)
       → IsPlayedTo s w → EndsPlayed n now (x ∷ xs) last s left
@@ -488,14 +488,14 @@ module _ (H : Type 0) (h : H) (Ends : (request rest : List ℕ) → IsRequest re
 
   pub all_end : (xs : List Exchange) (last : Option (List Enrolment)) (done : Result ⊤ ErrorCode) (n : Noted)
       (now : Option Recorded) (s : State) (w between left : DeskWorld) → AreNoted (Some (Open n)) xs last now
-      → AreServed H xs w between → IsLastNews H last done between left → OnlyLast xs last
+      → AreServed H xs w between → IsLastEnrolments H last done between left → OnlyLast xs last
       → All (λ x. x.parting.outcome ≡ outcome_of x.served) xs → IsPlayedTo s w
       → EndsPlayed n now xs last s left
   all_end [] None done n now s w between left noted served is only reported at =
       none_ends n now s w left noted (is ∙ served) at
   all_end [] (Some newly_enrolled) done n now s w between left noted served is only reported at =
       last_news_end H h done n now newly_enrolled s w left
-      (subst (λ v. IsLastNews H (Some newly_enrolled) done v left) served is) noted.1.0 noted.1.1
+      (subst (λ v. IsLastEnrolments H (Some newly_enrolled) done v left) served is) noted.1.0 noted.1.1
       (subst (λ r. RecordsNone r now) noted.1.2 noted.2) at
   all_end (x ∷ xs) last done n now s w between left noted served is only reported at =
       let newly_enrolled = noted.3.newly_enrolled in

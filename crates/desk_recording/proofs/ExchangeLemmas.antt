@@ -17,7 +17,7 @@ use Rattle.desk_run.specs.DeskWorld.{DeskWorld}
 use Rattle.desk_run.specs.Verdicts.{Reported, no_such_plan, replied, reported_to, unknown_operator}
 use Rattle.desk_writing.specs.Answer.{answer_text, error_text, json_answer}
 use Rattle.desk_writing.specs.ReplyText.{reply_text}
-use Rattle.desk_wire.specs.Bytes.{IsAnsweredSo, IsServerError, status_so, text, text_for, world_after}
+use Rattle.desk_wire.specs.Bytes.{IsAnsweredSo, IsServerError, status_or_500, text, text_for, world_after}
 use Rattle.desk_wire.specs.RequestsKept.{IsCertain}
 use Rattle.desk_wire.specs.Passage.{passed}
 use Rattle.desk_wire.specs.RefusalTexts.{refusal_text, server_error_text}
@@ -100,7 +100,7 @@ all_of Ends (b ∷ request) whole rest is same one =
 
 none_failed : (status : ℕ) (why : Option ServerError) (w : DeskWorld) (moment : ℤ) (reading : Reading Asked)
     (framed : Bool) → failure_at (Ok (Answered status framed)) ≡ None
-    → status ≡ status_so why w moment reading → why ≡ None
+    → status ≡ status_or_500 why w moment reading → why ≡ None
 none_failed status None w moment reading framed none is = refl
 none_failed status (Some error) w moment reading framed none is = grind (arith, none, is)
 

@@ -18,7 +18,7 @@ use Rattle.desk_cli.specs.Lines.{AreEnrolments}
 use Rattle.desk_cli.specs.declared.line.Enrolment.{Enrolment}
 use Rattle.desk_program.specs.Enrolling.{with_operators}
 use Rattle.desk_program.specs.Recorded.{AreNamed, answer_entry, operator_entry, request_entry}
-use Rattle.desk_replay.specs.Replaying.{AskingParts, Outcome, State, counted, is_alike, is_failure, last_moment, listed, played, requested, taken, taken_answer, then_taken, with_change}
+use Rattle.desk_replay.specs.Replaying.{AskingParts, Outcome, State, counted, is_expected_answer, is_failure, last_moment, listed, played, requested, taken, answer_outcome, then_taken, with_change}
 
 ok_same : {A E : Type 0} {x y : A} → ◌≡◌ {A = Result A E} (Ok x) (Ok y) → x ≡ y
 ok_same e = cc
@@ -112,7 +112,7 @@ same xs = (bytes_eq-Decides xs xs).1 refl
 pub is_answered : (s : State) (second : ℕ) (request : List ℕ) → IsSome s.record_number
     → taken (asked_of s second request)
     (answer_entry second (text_for s.world (pos second) (asked request))) ≡ Ok (after s second request)
-unfolding taken taken_answer
+unfolding taken answer_outcome
 is_answered s second request begun =
     rw (
       begun_is s.record_number begun,
@@ -142,11 +142,11 @@ is_failure_text Store = rw (same (server_error_text Store)) (or_true (bytes_eq (
 pub failure_taken : (s : State) (second : ℕ) (request : List ℕ) (why : ServerError) → IsSome s.record_number
     → (t : State) × (taken (asked_of s second request) (answer_entry second (server_error_text why)) ≡ Ok t)
     × (t.world ≡ world_after s.world (pos second) (asked request))
-unfolding taken taken_answer
+unfolding taken answer_outcome
 failure_taken s second request why begun =
-    by (is_alike (asking_of s second request) (server_error_text why)) refl
+    by (is_expected_answer (asking_of s second request) (server_error_text why)) refl
   where
-    by : (alike : Bool) → is_alike (asking_of s second request) (server_error_text why) ≡ alike
+    by : (alike : Bool) → is_expected_answer (asking_of s second request) (server_error_text why) ≡ alike
         → (t : State)
         × (taken (asked_of s second request) (answer_entry second (server_error_text why)) ≡ Ok t)
         × (t.world ≡ world_after s.world (pos second) (asked request))

@@ -15,7 +15,7 @@ use Rattle.desk_cli.specs.Lines.{AreEnrolments}
 use Rattle.desk_cli.specs.declared.line.Enrolment.{Enrolment}
 use Rattle.desk_program.specs.Enrolling.{AreEnrolled, with_operators}
 use Rattle.desk_program.specs.Recorded.{AreNamed, Ended, IsAnswerRecorded, IsOpen, IsRecorded, Noted, Open, Recorded, RecordsAnswer, RecordsRequest, answer_entry, operator_entry, request_entry, with_answer, with_news, with_request}
-use Rattle.desk_program.specs.Serving.{AreNoted, AreServed, AreTaken, Exchange, IsLastNews, Traffic, is_answered, outcome_of, passage_of}
+use Rattle.desk_program.specs.Serving.{AreNoted, AreServed, AreTaken, Exchange, IsLastEnrolments, Traffic, is_answered, outcome_of, passage_of}
 use Rattle.desk_replay.specs.Replaying.{State, played}
 use Rattle.desk_recording.specs.Played.{AddsOpen, AddsPlayed, IsPlayedTo, entries_of, known, pair_of}
 use Rattle.desk_recording.proofs.ExchangeLemmas.{AreAsked, are_asked, low_second, same_second, some_text}
@@ -158,7 +158,7 @@ reported_whole x reported whole = sym (ap (λ o. o.is_answered) reported) ∙ wh
 
 -- a desk that goes on has listed the operators of all news
 none_last : (H : Type 0) (last : Option (List Enrolment)) (w left : DeskWorld)
-    → IsLastNews {A = ⊤} H last (Ok tt) w left → (last ≡ None) × (left ≡ w)
+    → IsLastEnrolments {A = ⊤} H last (Ok tt) w left → (last ≡ None) × (left ≡ w)
 none_last H None w left is = (refl, is)
 none_last H (Some newly_enrolled) w left is = absurd is
 

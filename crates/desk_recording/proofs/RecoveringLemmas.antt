@@ -10,10 +10,10 @@ use Rattle.desk_run.specs.declared.fault.DeskFault.{DeskFault}
 use Rattle.desk_wire.specs.Passage.{Course, course}
 use Rattle.desk_cli.specs.Exits.{IsLineBreakdown, enrolment_failure}
 use Rattle.desk_cli.specs.declared.failure.ErrorCode.{ErrorCode}
-use Rattle.desk_program.specs.Enrolling.{AreListedSoFar, on_terms, with_operators}
+use Rattle.desk_program.specs.Enrolling.{AreEnrolledSoFar, on_terms, with_operators}
 use Rattle.desk_replay.specs.Replaying.{StaysSettled}
 use Rattle.desk_recording.specs.Recording.{AddsStep, Step}
-use Rattle.desk_recording.specs.Recovering.{AddsBoth, AsksAgainIfAny, Recovers, Undone}
+use Rattle.desk_recording.specs.Recovering.{AddsBoth, RedoesIfPending, Recovers, Undone}
 
 pub both_added : (old mid new : Option (List Step)) (one other : Step) → AddsStep old mid one
     → AddsStep mid new other
@@ -27,7 +27,7 @@ both_added (Some steps) mid new one other first next =
 pub recovers : {H G : Type 0} (u : Undone) (world : Course DeskWorld) (listed : DeskWorld)
     (steps : Course (Option (List Step))) (done : Result ⊤ ErrorCode) → (H → G)
     → (G → listed ≡ with_operators (on_terms world.before u.terms) u.missing)
-    → AsksAgainIfAny H u.asked (course listed world.after) steps done → Recovers H u world steps done
+    → RedoesIfPending H u.asked (course listed world.after) steps done → Recovers H u world steps done
 recovers u world listed steps (Ok d) down are asks =
     record { listed = listed; are = λ h. are (down h); asks = asks }
 recovers u world listed steps (Err f) down are asks =
@@ -41,7 +41,7 @@ failed_as fault (inr store) = inr (ap enrolment_failure store)
 pub unlisted : {H : Type 0} (u : Undone) (world : Course DeskWorld) (steps : Course (Option (List Step)))
     (fault : DeskFault) (f : ErrorCode) → f ≡ enrolment_failure fault → call.IsBreakdown fault
     → steps.after ≡ steps.before
-    → AreListedSoFar H u.missing (on_terms world.before u.terms) world.after
+    → AreEnrolledSoFar H u.missing (on_terms world.before u.terms) world.after
     → Recovers H u world steps (Err f)
 unlisted u world steps fault f is broken same so_far =
     inr (record {

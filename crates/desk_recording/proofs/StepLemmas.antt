@@ -8,8 +8,8 @@ use Rattle.desk_wire.specs.Passage.{Course, course}
 use Rattle.desk_wire.specs.Streams.{IsRequest}
 use Rattle.desk_cli.specs.Lines.{AreEnrolments}
 use Rattle.desk_cli.specs.declared.line.Enrolment.{Enrolment}
-use Rattle.desk_program.specs.Recorded.{AreNamed, Ended, IsOpen, Noted, Recorded, RecordsAnswer, RecordsNews, RecordsNone, RecordsRequest, request_entry, with_answer, with_news, with_request}
-use Rattle.desk_program.specs.Serving.{BringsNews, Closes, Denies, Parting, TakesArrival, arrived}
+use Rattle.desk_program.specs.Recorded.{AreNamed, Ended, IsOpen, Noted, Recorded, RecordsAnswer, RecordsEnrolments, RecordsNone, RecordsRequest, request_entry, with_answer, with_news, with_request}
+use Rattle.desk_program.specs.Serving.{BringsEnrolments, Closes, AddsNothingNew, Parting, TakesArrival, arrived}
 use Rattle.desk_recording.specs.Recording.{AddsStep, Answered, Asked, Enrolled, HasText, Lost, Notes, NotesOnDisk, SendsKept, Step, arrivals_in, news_in, partings_in, traffic_of}
 use Rattle.desk_recording.specs.Reporting.{recorded_by}
 
@@ -49,7 +49,7 @@ ends_with (Some n) text is = ap (λ t. option_map Ended t) is
 records_news : (noted now : Option Noted) (newly_enrolled : List Enrolment)
     → NotesOnDisk noted now true (λ n. with_news n newly_enrolled) → AreEnrolments newly_enrolled
     → IfSome noted (λ n. AreNamed newly_enrolled)
-    → RecordsNews (recorded_by false noted) (recorded_by false now) newly_enrolled
+    → RecordsEnrolments (recorded_by false noted) (recorded_by false now) newly_enrolled
 records_news None now newly_enrolled is small named = tt
 records_news (Some n) now newly_enrolled is small named = (small, named, ap (λ v. recorded_by false v) is)
 
@@ -136,16 +136,16 @@ is_open (Some steps) None = tt
 is_open (Some steps) (Some n) = tt
 
 -- enrolments are brought
-pub brings_news : (old new : Option (List Step)) (noted now : Option Noted) (newly_enrolled : List Enrolment)
+pub brings_enrolments : (old new : Option (List Step)) (noted now : Option Noted) (newly_enrolled : List Enrolment)
     → AddsStep old new (Enrolled newly_enrolled) → NotesOnDisk noted now true (λ n. with_news n newly_enrolled)
     → AreEnrolments newly_enrolled
     → IfSome noted (λ n. AreNamed newly_enrolled)
-    → BringsNews (traffic_of old (recorded_by false noted)) (traffic_of new (recorded_by false now)) newly_enrolled
-brings_news None new noted now newly_enrolled is noting small named =
-    subst (λ s. BringsNews (traffic_of None (recorded_by false noted)) (traffic_of s (recorded_by false now))
+    → BringsEnrolments (traffic_of old (recorded_by false noted)) (traffic_of new (recorded_by false now)) newly_enrolled
+brings_enrolments None new noted now newly_enrolled is noting small named =
+    subst (λ s. BringsEnrolments (traffic_of None (recorded_by false noted)) (traffic_of s (recorded_by false now))
     newly_enrolled) (sym is) (tt, refl, refl, refl, records_news noted now newly_enrolled noting small named)
-brings_news (Some steps) new noted now newly_enrolled is noting small named =
-    subst (λ s. BringsNews (traffic_of (Some steps) (recorded_by false noted))
+brings_enrolments (Some steps) new noted now newly_enrolled is noting small named =
+    subst (λ s. BringsEnrolments (traffic_of (Some steps) (recorded_by false noted))
     (traffic_of s (recorded_by false now)) newly_enrolled) (sym is) (
       news_and steps (Enrolled newly_enrolled),
       ap Some (arrivals_and steps (Enrolled newly_enrolled) ∙ append-nil (arrivals_in steps)),
@@ -156,22 +156,22 @@ brings_news (Some steps) new noted now newly_enrolled is noting small named =
 
 -- nothing is brought or taken
 denies : (old new : Option (List Step)) (recorded after : Option Recorded) → new ≡ old
-    → RecordsNone recorded after → Denies (traffic_of old recorded) (traffic_of new after)
+    → RecordsNone recorded after → AddsNothingNew (traffic_of old recorded) (traffic_of new after)
 denies None new recorded after same none =
-    subst (λ s. Denies (traffic_of None recorded) (traffic_of s after)) (sym same)
+    subst (λ s. AddsNothingNew (traffic_of None recorded) (traffic_of s after)) (sym same)
     (refl, refl, refl, refl, none)
 denies (Some steps) new recorded after same none =
-    subst (λ s. Denies (traffic_of (Some steps) recorded) (traffic_of s after)) (sym same)
+    subst (λ s. AddsNothingNew (traffic_of (Some steps) recorded) (traffic_of s after)) (sym same)
     (refl, refl, refl, refl, none)
 
 pub no_news : (old new : Option (List Step)) (noted now : Option Noted) (newly_enrolled : List Enrolment) → new ≡ old
     → NotesOnDisk noted now false (λ n. with_news n newly_enrolled)
-    → Denies (traffic_of old (recorded_by false noted)) (traffic_of new (recorded_by true now))
+    → AddsNothingNew (traffic_of old (recorded_by false noted)) (traffic_of new (recorded_by true now))
 no_news old new noted now newly_enrolled same noting = denies old new _ _ same (cut_news noted now newly_enrolled noting)
 
 pub none_taken : (old new : Option (List Step)) (noted now : Option Noted) (moment : ℤ) (request : List ℕ)
     → new ≡ old → NotesOnDisk noted now false (λ n. with_request n moment request)
-    → Denies (traffic_of old (recorded_by false noted)) (traffic_of new (recorded_by true now))
+    → AddsNothingNew (traffic_of old (recorded_by false noted)) (traffic_of new (recorded_by true now))
 none_taken old new noted now moment request same noting =
     denies old new _ _ same (cut_request noted now moment request noting)
 
@@ -238,9 +238,9 @@ module _ {W : Type 0} (old new : Option (List Step)) (noted now : Option Noted) 
       → (is_lost ≡ false → (was_lost ≡ false) × (parting.outcome.is_answered ≡ true))
       → Closes (traffic_of old (recorded_by was_lost noted))
       (traffic_of new (recorded_by is_lost now)) parting
-  closes_so sends said noting may =
+  closes_so sends tail_with noting may =
       closes old new (recorded_by was_lost noted) (recorded_by is_lost now) parting
       (kept_or_lost old new parting (course out sent) done sends)
       (subst (λ s. RecordsAnswer (recorded_by was_lost noted) (recorded_by is_lost now) s
-      parting.outcome.is_answered) (sym said)
+      parting.outcome.is_answered) (sym tail_with)
       (records_answer noted now was_lost is_lost parting.outcome.is_answered answer noting may))

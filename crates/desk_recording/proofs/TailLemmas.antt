@@ -5,7 +5,7 @@ use Rattle.std.specs.List.{AllByRecursion}
 use Rattle.std.specs.Io.KnownBytes.{Consumes}
 use Rattle.std.proofs.KnownBytes.{Consumes-nil, Consumes-trans}
 use Rattle.desk_record.specs.Record.{EntryParts, Fits, entries, entry}
-use Rattle.desk_recording.specs.Tail.{HasNoTail, HasSaid, IsNoRecord, IsSaid, IsUnsaid, Said, StepsTail, TailParts, nothing_said, said, said_by}
+use Rattle.desk_recording.specs.Tail.{HasNoTail, AreApplied, IsNoRecord, IsApplied, IsNotApplied, NextTail, StepsTail, TailParts, empty_tail, tail_with, tail_with_all}
 use Rattle.desk_recording.specs.declared.tail.TailEnd.{TailEnd}
 use Rattle.desk_recording.specs.declared.tail.TailFault.{TailFault}
 use Rattle.desk_recording.specs.declared.tail.TailFault.TheVariants.{Read, OutOfMemory, NoRecord}
@@ -13,17 +13,17 @@ use Rattle.desk_recording.specs.declared.tail.TailFault.TheVariants.{Read, OutOf
 some_same : {A : Type 0} {x y : A} → Some x ≡ Some y → x ≡ y
 some_same e = cc
 
-said_more : (s t u : TailParts) (es : List EntryParts) (e : EntryParts) → said_by s es ≡ Some t
-    → said t e ≡ Some u → said_by s (es ++ (e ∷ [])) ≡ Some u
-unfolding said_by
+said_more : (s t u : TailParts) (es : List EntryParts) (e : EntryParts) → tail_with_all s es ≡ Some t
+    → tail_with t e ≡ Some u → tail_with_all s (es ++ (e ∷ [])) ≡ Some u
+unfolding tail_with_all
 said_more s t u [] e first next =
-    ap (λ x. option_and_then (λ y. Some y) (said x e)) (some_same first)
+    ap (λ x. option_and_then (λ y. Some y) (tail_with x e)) (some_same first)
     ∙ ap (option_and_then (λ y. Some y)) next
 said_more s t u (x ∷ es) e first next =
-    by_first (said s x) first (λ v h. said_more v t u es e h next) where
-      by_first : (o : Said) → option_and_then (λ v. said_by v es) o ≡ Some t
-          → ((v : TailParts) → said_by v es ≡ Some t → said_by v (es ++ (e ∷ [])) ≡ Some u)
-          → option_and_then (λ v. said_by v (es ++ (e ∷ []))) o ≡ Some u
+    by_first (tail_with s x) first (λ v h. said_more v t u es e h next) where
+      by_first : (o : NextTail) → option_and_then (λ v. tail_with_all v es) o ≡ Some t
+          → ((v : TailParts) → tail_with_all v es ≡ Some t → tail_with_all v (es ++ (e ∷ [])) ≡ Some u)
+          → option_and_then (λ v. tail_with_all v (es ++ (e ∷ []))) o ≡ Some u
       by_first (Some v) h more = more v h
       by_first None h more = cc
 
@@ -37,34 +37,34 @@ fit_more : (es : List EntryParts) (e : EntryParts) → AllByRecursion Fits es �
 fit_more [] e fit one = (one, tt)
 fit_more (x ∷ es) e fit one = (fit.0, fit_more es e fit.1 one)
 
-pub none_said : (old : Option (List ℕ)) → HasSaid old old nothing_said
-unfolding said_by
+pub none_said : (old : Option (List ℕ)) → AreApplied old old empty_tail
+unfolding tail_with_all
 none_said old = record { all = []; fit = tt; read = Consumes-nil old; are = refl }
 
 -- one entry more
-one_more : {old mid new : Option (List ℕ)} {s t : TailParts} → HasSaid old mid s → IsSaid mid new s t
-    → HasSaid old new t
+one_more : {old mid new : Option (List ℕ)} {s t : TailParts} → AreApplied old mid s → IsApplied mid new s t
+    → AreApplied old new t
 one_more {old} {mid} {new} {s} {t} first next = record {
   all = first.all ++ (next.one ∷ []);
   fit = fit_more first.all next.one first.fit next.fits;
   read = subst (Consumes old new) (sym (entries_more first.all next.one))
       (Consumes-trans old mid new (entries first.all) (entry next.one) first.read next.read);
-  are = said_more nothing_said s t first.all next.one first.are next.is;
+  are = said_more empty_tail s t first.all next.one first.are next.is;
 }
 
 -- an entry that no desk writes there
-none_more : {old mid new : Option (List ℕ)} {s : TailParts} → HasSaid old mid s → IsUnsaid mid new s
+none_more : {old mid new : Option (List ℕ)} {s : TailParts} → AreApplied old mid s → IsNotApplied mid new s
     → IsNoRecord old
 none_more {old} {mid} {new} {s} first unsaid =
     record { mid = mid; new = new; t = s; first = first; unsaid = unsaid }
 
 -- a step at which nothing ended
 pub goes_on : (r : Option TailEnd) (old mid new : Option (List ℕ)) (s t : TailParts) → r ≡ None
-    → HasSaid old mid s → StepsTail (Ok r) mid new s t → HasSaid old new t
+    → AreApplied old mid s → StepsTail (Ok r) mid new s t → AreApplied old new t
 goes_on r old mid new s t is first step = one_more first (subst (λ x. StepsTail (Ok x) mid new s t) is step)
 
 -- why no tail is reported
-pub unreported : (fault : TailFault) (old mid new : Option (List ℕ)) (s t : TailParts) → HasSaid old mid s
+pub unreported : (fault : TailFault) (old mid new : Option (List ℕ)) (s t : TailParts) → AreApplied old mid s
     → StepsTail (Err fault) mid new s t → HasNoTail old fault
 unreported Read old mid new s t first step = tt
 unreported OutOfMemory old mid new s t first step = tt

@@ -41,13 +41,13 @@ HandsOutNone unframed left Unframed = unframed ≡ true
 HandsOutNone unframed left (AppendError cut) = ⊥
 
 -- the result of `play`, by why its input ended
-abbrev pub reported_as : {R W : Type 0} → InputEnd R W → Result ⊤ ErrorCode
-reported_as AtEnd = Ok (tt {0})
-reported_as CutShort = Err failure.CutShort
-reported_as (Unread unread) = Err failure.Read
-reported_as OutOfMemory = Err failure.Memory
-reported_as Unframed = Err failure.Unframed
-reported_as (AppendError cut) = Err failure.Write
+abbrev pub exit_of_input_end : {R W : Type 0} → InputEnd R W → Result ⊤ ErrorCode
+exit_of_input_end AtEnd = Ok (tt {0})
+exit_of_input_end CutShort = Err failure.CutShort
+exit_of_input_end (Unread unread) = Err failure.Read
+exit_of_input_end OutOfMemory = Err failure.Memory
+exit_of_input_end Unframed = Err failure.Unframed
+exit_of_input_end (AppendError cut) = Err failure.Write
 
 -- an input ends because writing this answer to the output broke off
 abbrev pub IsUnwritten : {R W : Type 0} → List ℕ → Course (Option (List ℕ)) → InputEnd R W → Type 0
@@ -64,11 +64,11 @@ EndsInput answer writes old new = (Appends writes.before writes.after answer × 
 -- the result of `play`: if the input or the output ended, that decides; else the error of serving the port,
 -- if there is one; else as many requests were answered as one command answers, and the error is `Unframed` or
 -- `Limit`
-abbrev pub ended_by : Option (Result ⊤ ErrorCode) → Bool → Result ⊤ ErrorCode → Result ⊤ ErrorCode
-ended_by (Some ended) unframed done = ended
-ended_by None unframed (Err f) = Err f
-ended_by None true (Ok done) = Err failure.Unframed
-ended_by None false (Ok done) = Err failure.Limit
+abbrev pub exit_of_play : Option (Result ⊤ ErrorCode) → Bool → Result ⊤ ErrorCode → Result ⊤ ErrorCode
+exit_of_play (Some ended) unframed done = ended
+exit_of_play None unframed (Err f) = Err f
+exit_of_play None true (Ok done) = Err failure.Unframed
+exit_of_play None false (Ok done) = Err failure.Limit
 
 -- the effects of `play` with a journal: the result by which the input or the output ended, if one did;
 -- whether the place of the next request is unknown; what the port reported before and after; and how the
@@ -85,7 +85,7 @@ abbrev pub input_outside :
     {R W K F E : Type 0} → Ghosts K F → write.Ghosts E → RecordedPort (InputPort R W) K
     → RecordedPort (InputPort R W) K → ExitReport E → E → E → InputOutside
 input_outside k e old new exit before now = record {
-  stopped = option_map reported_as new.port.ended;
+  stopped = option_map exit_of_input_end new.port.ended;
   unframed = new.port.is_unframed;
   port = course (reported_of k old) (reported_of k new);
   end = ended e exit before now;
@@ -96,20 +96,20 @@ input_outside k e old new exit before now = record {
 pub record IsPlayRecorded (H : Type 0) (play : PlayArgs) (o : InputOutside) (w after : DeskWorld) : Type 0
   where
     pub done : Result ⊤ ErrorCode
-    pub ends : EndsWith (ended_by o.stopped o.unframed done) o.end
+    pub ends : EndsWith (exit_of_play o.stopped o.unframed done) o.end
     pub played : IsInputPlayed H done play o.port w after
 
 -- the same, and the content `found` is one that the next start may find
 pub record IsRecordedKept (H : Type 0) (play : PlayArgs) (o : InputOutside) (w after : DeskWorld)
     (found : Option World) : Type 0 where
   pub done : Result ⊤ ErrorCode
-  pub ends : EndsWith (ended_by o.stopped o.unframed done) o.end
+  pub ends : EndsWith (exit_of_play o.stopped o.unframed done) o.end
   pub kept : IsInputKept H done play o.port w after found
 
 -- if the command ends with the error `Store`, the store has counted a fault (from old to new)
 pub record IsRecordedCause (o : InputOutside) (old new : ℕ) : Type 0 where
   pub done : Result ⊤ ErrorCode
-  pub ends : EndsWith (ended_by o.stopped o.unframed done) o.end
+  pub ends : EndsWith (exit_of_play o.stopped o.unframed done) o.end
   pub cause : IsEndCounted done old new
 
 -- all of that for a desk before (old) and after (new): the requests are played; what the next start may find;

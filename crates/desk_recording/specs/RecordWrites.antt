@@ -32,13 +32,13 @@ MakesWrite old new true write = FollowsWrites old new (write ∷ [])
 MakesWrite old new false write = FollowsWrites old new (Failed ∷ [])
 
 -- the error is one of the file, and not of memory
-abbrev pub IsOfJournal : {F : Type 0} → AppendError F → Type 0
-IsOfJournal OutOfMemory = ⊥
-IsOfJournal (Journal fault) = ⊤
+abbrev pub IsJournalFault : {F : Type 0} → AppendError F → Type 0
+IsJournalFault OutOfMemory = ⊥
+IsJournalFault (Journal fault) = ⊤
 
 -- the writes of an entry that is appended and flushed
-abbrev pub kept_writes : EntryParts → List Write
-kept_writes e = Appended (entry e) ∷ Synced ∷ []
+abbrev pub synced_writes : EntryParts → List Write
+synced_writes e = Appended (entry e) ∷ Synced ∷ []
 
 -- the write of an entry that is appended and not flushed
 abbrev pub appended_writes : EntryParts → List Write
@@ -47,7 +47,7 @@ appended_writes e = Appended (entry e) ∷ []
 -- the writes of a request: none if no whole one came; else its entry is appended and flushed
 abbrev pub request_writes : ℕ → List ℕ → List Write
 request_writes second [] = []
-request_writes second (b ∷ bytes) = kept_writes (request_entry second (b ∷ bytes))
+request_writes second (b ∷ bytes) = synced_writes (request_entry second (b ∷ bytes))
 
 -- the writes of an answer: none if no answer was made; else its entry is appended
 abbrev pub answer_writes : ℕ → List ℕ → List Write
@@ -56,9 +56,9 @@ answer_writes second (b ∷ bytes) = appended_writes (answer_entry second (b ∷
 
 -- the writes of new enrolments: none if there are none; else their entries are appended, in their order, and
 -- flushed
-abbrev pub news_writes : List Enrolment → List Write
-news_writes [] = []
-news_writes (e ∷ es) = Appended (entries (map operator_entry (e ∷ es))) ∷ Synced ∷ []
+abbrev pub enrolment_writes : List Enrolment → List Write
+enrolment_writes [] = []
+enrolment_writes (e ∷ es) = Appended (entries (map operator_entry (e ∷ es))) ∷ Synced ∷ []
 
 -- the bytes that these writes appended
 abbrev pub appended_in : List Write → List ℕ

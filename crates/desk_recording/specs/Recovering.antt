@@ -12,7 +12,7 @@ use Rattle.desk_cli.specs.declared.failure.ErrorCode.{ErrorCode}
 use Rattle.desk_cli.specs.declared.failure.ErrorCode.TheVariants as failure
 use Rattle.desk_cli.specs.declared.line.Enrolment.{Enrolment}
 use Rattle.desk_cli.specs.Exits.{IsLineBreakdown}
-use Rattle.desk_program.specs.Enrolling.{AreListedSoFar, on_terms, with_operators}
+use Rattle.desk_program.specs.Enrolling.{AreEnrolledSoFar, on_terms, with_operators}
 use Rattle.desk_program.specs.Serving.{Parting, parted}
 use Rattle.desk_program.specs.declared.port.ExchangeEnd.{ExchangeEnd}
 use Rattle.desk_replay.specs.Replaying.{last_moment}
@@ -42,8 +42,8 @@ abbrev pub whole_outcome : ExchangeEnd
 whole_outcome = record { is_whole = true; is_answered = true }
 
 -- the closed connection of a repeated request: the answer is whole, and goes to no client
-abbrev pub reported_again : List ℕ → Parting
-reported_again answer = parted (Some []) (Some answer) whole_outcome
+abbrev pub parting_without_client : List ℕ → Parting
+parting_without_client answer = parted (Some []) (Some answer) whole_outcome
 
 -- the error code of a recovery that failed
 abbrev pub failure_of : {R : Type 0} → RecoveryError R → ErrorCode
@@ -65,32 +65,32 @@ module _ (H : Type 0) (u : UnansweredParts) (world : Course DeskWorld) (steps : 
   where
     -- the request is recorded and then carried out at its second; its answer is recorded or lost (came). H:
     -- the disk has returned what was written
-    pub record IsAskedAgain (came : Parting → Step) : Type 0 where
+    pub record IsRedone (came : Parting → Step) : Type 0 where
       pub answer : List ℕ
       pub kept : AddsBoth steps.before steps.after (Asked (moment_of u) u.request)
-          (came (reported_again answer))
+          (came (parting_without_client answer))
       pub reported : H → answer ≡ text_for world.before (moment_of u) (asked u.request)
       pub left : H → world.after ≡ world_after world.before (moment_of u) (asked u.request)
 
     -- the request is recorded, and the desk failed at it and changed nothing
-    pub record IsFailedAgain : Type 0 where
+    pub record FailsRedoing : Type 0 where
       pub kept : AddsBoth steps.before steps.after (Asked (moment_of u) u.request)
-          (Lost (reported_again []))
+          (Lost (parting_without_client []))
       pub left : H → world.after ≡ world.before
 
     -- the request isn't recorded, and so it isn't carried out
-    pub record IsNotAsked : Type 0 where
+    pub record IsNotRedone : Type 0 where
       pub kept : steps.after ≡ steps.before
       pub left : world.after ≡ world.before
 
     -- the request is carried out again, and its answer recorded; or memory ran out or the store failed; or
     -- the request or its answer can't be recorded; or its second is out of range
-    abbrev pub AsksAgain : Result ⊤ ErrorCode → Type 0
-    AsksAgain (Ok done) = IsAskedAgain Answered
-    AsksAgain (Err f) =
-        (((f ≡ failure.Memory) ⊎ (f ≡ failure.Store)) × IsFailedAgain)
-        ⊎ (((f ≡ failure.Broken) × (IsNotAsked ⊎ IsAskedAgain Lost))
-        ⊎ ((f ≡ failure.Clock) × (last_moment < u.second) × IsNotAsked))
+    abbrev pub RedoesRequest : Result ⊤ ErrorCode → Type 0
+    RedoesRequest (Ok done) = IsRedone Answered
+    RedoesRequest (Err f) =
+        (((f ≡ failure.Memory) ⊎ (f ≡ failure.Store)) × FailsRedoing)
+        ⊎ (((f ≡ failure.Broken) × (IsNotRedone ⊎ IsRedone Lost))
+        ⊎ ((f ≡ failure.Clock) × (last_moment < u.second) × IsNotRedone))
 
 -- what a journal leaves pending at a desk: the settings with which it is to plan, the operators that it
 -- lacks, and the request that is to be repeated, if there is one
@@ -104,11 +104,11 @@ undone terms missing asked = record { terms = terms; missing = missing; asked = 
 
 module _ (H : Type 0) where
   -- the request is repeated, if there is one; else nothing is done
-  abbrev pub AsksAgainIfAny :
+  abbrev pub RedoesIfPending :
       Option UnansweredParts → Course DeskWorld → Course (Option (List Step)) → Result ⊤ ErrorCode → Type 0
-  AsksAgainIfAny None world steps done =
+  RedoesIfPending None world steps done =
       IsOkAnd done (λ _. (world.after ≡ world.before) × (steps.after ≡ steps.before))
-  AsksAgainIfAny (Some u) world steps done = AsksAgain H u world steps done
+  RedoesIfPending (Some u) world steps done = RedoesRequest H u world steps done
 
   -- the desk gets the journal's settings, and the missing operators are enrolled; then the request is
   -- repeated
@@ -116,14 +116,14 @@ module _ (H : Type 0) where
       (done : Result ⊤ ErrorCode) : Type 0 where
     pub listed : DeskWorld
     pub are : H → listed ≡ with_operators (on_terms world.before u.terms) u.missing
-    pub asks : AsksAgainIfAny u.asked (course listed world.after) steps done
+    pub asks : RedoesIfPending u.asked (course listed world.after) steps done
 
   -- an operator could not be enrolled, and no request is repeated
   pub record IsNotRecovered (u : Undone) (world : Course DeskWorld) (steps : Course (Option (List Step)))
       (f : ErrorCode) : Type 0 where
     pub broken : IsLineBreakdown f
     pub kept : steps.after ≡ steps.before
-    pub listed : AreListedSoFar H u.missing (on_terms world.before u.terms) world.after
+    pub listed : AreEnrolledSoFar H u.missing (on_terms world.before u.terms) world.after
 
   -- the result of a recovery: one or the other
   abbrev pub Recovers :

@@ -10,8 +10,8 @@ use Rattle.desk_program.specs.Serving.{Parting, Traffic, parted}
 use Rattle.desk_recording.specs.Recording.{traffic_of}
 use Rattle.desk_recording.specs.declared.port.RecordedPort.{RecordedPort}
 use Rattle.desk_recording.specs.declared.record.Record.{Ghosts}
-use Rattle.desk_recording.specs.declared.streams.Given.{Given}
-use Rattle.desk_recording.specs.declared.streams.Held.{Held}
+use Rattle.desk_recording.specs.declared.streams.BufferedRequest.{BufferedRequest}
+use Rattle.desk_recording.specs.declared.streams.BufferedResponse.{BufferedResponse}
 
 -- the journal with this text: open, or ended if the port is broken
 abbrev pub recorded_as : Bool → Noted → Recorded
@@ -44,6 +44,6 @@ closed_as false (Ok done) = Ok done
 closed_as false (Err f) = Err (failure_below f)
 
 -- a connection as it is closed, by its buffered request (input) and its buffered answer (output)
-abbrev pub parted_in : {I O : Type 0} → Given I → Held O → ExchangeEnd → Parting
+abbrev pub parted_in : {I O : Type 0} → BufferedRequest I → BufferedResponse O → ExchangeEnd → Parting
 parted_in input output outcome =
     parted (cursor_remaining (λ v. Some v.items) input.request) (Some output.answer.items) outcome

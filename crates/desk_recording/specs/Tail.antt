@@ -58,8 +58,8 @@ tail_shown t = record {
 }
 
 -- what no entries say
-abbrev pub nothing_said : TailParts
-nothing_said = record {
+abbrev pub empty_tail : TailParts
+empty_tail = record {
   record_number = None;
   permitted = [];
   terms = no_terms;
@@ -69,54 +69,54 @@ nothing_said = record {
 }
 
 -- what the entries say with one more; none if no desk writes that entry at its place
-abbrev pub Said : Type 0
-Said = Option TailParts
+abbrev pub NextTail : Type 0
+NextTail = Option TailParts
 
 -- none if the test holds
-abbrev pub none_if : Bool → Said → Said
+abbrev pub none_if : Bool → NextTail → NextTail
 none_if test next = if test then None else next
 
 -- with the header: it is the first entry, and has the version of the format
-unfoldable pub said_record : TailParts → ℕ → List ℕ → Said
-said_record t n bytes =
+unfoldable pub tail_with_header : TailParts → ℕ → List ℕ → NextTail
+tail_with_header t n bytes =
     none_if (is_some t.record_number || not (bytes_eq bytes version))
     (Some (record t { record_number = Some n }))
 
 -- with the permitted priorities `more`, by whether they are valid together
-abbrev pub said_permitted_by : TailParts → List ℕ → Result (List ℕ) PermitFault → Said
-said_permitted_by t more (Err fault) = None
-said_permitted_by t more (Ok permitted) =
+abbrev pub tail_with_permitted_list : TailParts → List ℕ → Result (List ℕ) PermitFault → NextTail
+tail_with_permitted_list t more (Err fault) = None
+tail_with_permitted_list t more (Ok permitted) =
     Some (record t { permitted = more; terms = record t.terms { permitted = permitted } })
 
 -- with one more permitted priority
-unfoldable pub said_permitted : TailParts → ℕ → Said
-said_permitted t p =
+unfoldable pub tail_with_permitted : TailParts → ℕ → NextTail
+tail_with_permitted t p =
     none_if (nat_lt max_priority p)
-    (said_permitted_by t (t.permitted ++ (p ∷ [])) (permitted_in (t.permitted ++ (p ∷ []))))
+    (tail_with_permitted_list t (t.permitted ++ (p ∷ [])) (permitted_in (t.permitted ++ (p ∷ []))))
 
 -- with a limit on spans
-unfoldable pub said_spans : TailParts → ℕ → Said
-said_spans t n =
+unfoldable pub tail_with_spans : TailParts → ℕ → NextTail
+tail_with_spans t n =
     none_if (not (nat_le 1 n && nat_le n max_spans))
     (Some (record t { terms = record t.terms { spans = Some n } }))
 
 -- with a limit on cells
-unfoldable pub said_cells : TailParts → ℕ → Said
-said_cells t n =
+unfoldable pub tail_with_cells : TailParts → ℕ → NextTail
+tail_with_cells t n =
     none_if (not (nat_le 1 n && nat_le n max_total_cells))
     (Some (record t { terms = record t.terms { cells = Some n } }))
 
 -- with one more operator
-unfoldable pub said_operator : TailParts → ℕ → List ℕ → Said
-said_operator t ceiling name =
+unfoldable pub tail_with_operator : TailParts → ℕ → List ℕ → NextTail
+tail_with_operator t ceiling name =
     none_if (not (is_operator_name name)) (none_if (nat_lt max_priority ceiling)
     (Some (record t {
       operators = t.operators ++ (record { operator = name; ceiling = ceiling } ∷ []);
     })))
 
 -- with a request: the operators before it are dropped, since the desk has enrolled them
-unfoldable pub said_request : TailParts → ℕ → List ℕ → Said
-said_request t second request =
+unfoldable pub tail_with_request : TailParts → ℕ → List ℕ → NextTail
+tail_with_request t second request =
     none_if (is_some t.asked) (none_if (nat_lt last_moment second)
     (Some (record t {
       operators = [];
@@ -124,29 +124,29 @@ said_request t second request =
     })))
 
 -- with the answer to the pending request, at the same second; after a 500 the request stays pending
-abbrev pub said_answer_to : TailParts → Option UnansweredParts → ℕ → List ℕ → Said
-said_answer_to t None second answer = None
-said_answer_to t (Some u) second answer =
+abbrev pub tail_with_answer_to : TailParts → Option UnansweredParts → ℕ → List ℕ → NextTail
+tail_with_answer_to t None second answer = None
+tail_with_answer_to t (Some u) second answer =
     none_if (not (u.second == second))
     (if is_failure answer then Some t else Some (record t { asked = None }))
 
 -- with an answer to the last request
-unfoldable pub said_answer : TailParts → ℕ → List ℕ → Said
-said_answer t second answer = said_answer_to t t.asked second answer
+unfoldable pub tail_with_answer : TailParts → ℕ → List ℕ → NextTail
+tail_with_answer t second answer = tail_with_answer_to t t.asked second answer
 
 -- none if the entry has bytes of its own
-abbrev pub said_bare : List ℕ → Said → Said
-said_bare bytes next = none_if (not (length bytes == 0)) next
+abbrev pub tail_if_bare : List ℕ → NextTail → NextTail
+tail_if_bare bytes next = none_if (not (length bytes == 0)) next
 
 -- with one more entry, by its kind, its number and its bytes
-abbrev pub said_within : Kind → TailParts → ℕ → List ℕ → Said
-said_within kind.Record t n bytes = said_record t n bytes
-said_within kind.Permitted t n bytes = said_bare bytes (said_permitted t n)
-said_within kind.Spans t n bytes = said_bare bytes (said_spans t n)
-said_within kind.Cells t n bytes = said_bare bytes (said_cells t n)
-said_within kind.Operator t n bytes = said_operator t n bytes
-said_within kind.Request t n bytes = said_request t n bytes
-said_within kind.Answer t n bytes = said_answer t n bytes
+abbrev pub tail_with_kind : Kind → TailParts → ℕ → List ℕ → NextTail
+tail_with_kind kind.Record t n bytes = tail_with_header t n bytes
+tail_with_kind kind.Permitted t n bytes = tail_if_bare bytes (tail_with_permitted t n)
+tail_with_kind kind.Spans t n bytes = tail_if_bare bytes (tail_with_spans t n)
+tail_with_kind kind.Cells t n bytes = tail_if_bare bytes (tail_with_cells t n)
+tail_with_kind kind.Operator t n bytes = tail_with_operator t n bytes
+tail_with_kind kind.Request t n bytes = tail_with_request t n bytes
+tail_with_kind kind.Answer t n bytes = tail_with_answer t n bytes
 
 -- the kind is that of the header
 abbrev pub is_first_kind : Kind → Bool
@@ -163,19 +163,19 @@ abbrev pub grown : TailParts → ℕ → TailParts
 grown t more = record t { size = min (t.size + more) (2 ^ 64 - 1) }
 
 -- with one more entry; the first one is the header
-unfoldable pub said : TailParts → EntryParts → Said
-said t e =
+unfoldable pub tail_with : TailParts → EntryParts → NextTail
+tail_with t e =
     none_if (is_none t.record_number && not (is_first_kind e.kind))
-    (said_within e.kind (grown t (length (entry e))) e.number e.bytes)
+    (tail_with_kind e.kind (grown t (length (entry e))) e.number e.bytes)
 
 -- with more entries, one after the other
-unfoldable pub said_by : TailParts → List EntryParts → Said
-said_by t [] = Some t
-said_by t (e ∷ es) = option_and_then (λ u. said_by u es) (said t e)
+unfoldable pub tail_with_all : TailParts → List EntryParts → NextTail
+tail_with_all t [] = Some t
+tail_with_all t (e ∷ es) = option_and_then (λ u. tail_with_all u es) (tail_with t e)
 
 -- the result of applying an entry: what the entries say is `new` now; or memory ran out; or no desk writes
 -- that entry there
-abbrev pub Notes : Result ⊤ TailFault → Said → TailParts → Type 0
+abbrev pub Notes : Result ⊤ TailFault → NextTail → TailParts → Type 0
 Notes (Ok done) outcome new = outcome ≡ Some new
 Notes (Err fault) outcome new = (fault ≡ OutOfMemory) ⊎ ((fault ≡ NoRecord) × (outcome ≡ None))
 
@@ -186,30 +186,30 @@ EndsIn Short left = IfSome left IsTooShort
 EndsIn Damaged left = IfSome left IsDamagedRecord
 
 -- the entries that were read from old to new say t
-pub record HasSaid (old new : Option (List ℕ)) (t : TailParts) : Type 0 where
+pub record AreApplied (old new : Option (List ℕ)) (t : TailParts) : Type 0 where
   pub all : List EntryParts
   pub fit : AllByRecursion Fits all
   pub read : Consumes old new (entries all)
-  pub are : said_by nothing_said all ≡ Some t
+  pub are : tail_with_all empty_tail all ≡ Some t
 
 -- one entry is read, and takes s, what the entries before say, to t
-pub record IsSaid (old new : Option (List ℕ)) (s t : TailParts) : Type 0 where
+pub record IsApplied (old new : Option (List ℕ)) (s t : TailParts) : Type 0 where
   pub one : EntryParts
   pub fits : Fits one
   pub read : Consumes old new (entry one)
-  pub is : said s one ≡ Some t
+  pub is : tail_with s one ≡ Some t
 
 -- one entry is read that no desk writes after entries that say s
-pub record IsUnsaid (old new : Option (List ℕ)) (s : TailParts) : Type 0 where
+pub record IsNotApplied (old new : Option (List ℕ)) (s : TailParts) : Type 0 where
   pub one : EntryParts
   pub fits : Fits one
   pub read : Consumes old new (entry one)
-  pub none : said s one ≡ None
+  pub none : tail_with s one ≡ None
 
 -- all whole entries were read, and say t; and this is what follows them
 pub record IsTail (old : Option (List ℕ)) (ended : TailEnd) (t : TailParts) : Type 0 where
   pub mid : Option (List ℕ)
-  pub first : HasSaid old mid t
+  pub first : AreApplied old mid t
   pub ends : EndsIn ended mid
 
 -- some entries were read, and then one that no desk writes there
@@ -217,8 +217,8 @@ pub record IsNoRecord (old : Option (List ℕ)) : Type 0 where
   pub mid : Option (List ℕ)
   pub new : Option (List ℕ)
   pub t : TailParts
-  pub first : HasSaid old mid t
-  pub unsaid : IsUnsaid mid new t
+  pub first : AreApplied old mid t
+  pub unsaid : IsNotApplied mid new t
 
 -- why no tail is returned: a read failed; memory ran out; or there is an entry that no desk writes there
 abbrev pub HasNoTail : Option (List ℕ) → TailFault → Type 0
@@ -229,8 +229,8 @@ HasNoTail old NoRecord = IsNoRecord old
 -- the result of reading the next entry: it is applied; or this follows the last whole entry; or an error
 abbrev pub StepsTail :
     Result (Option TailEnd) TailFault → Option (List ℕ) → Option (List ℕ) → TailParts → TailParts → Type 0
-StepsTail (Ok None) old new s t = IsSaid old new s t
+StepsTail (Ok None) old new s t = IsApplied old new s t
 StepsTail (Ok (Some ended)) old new s t = EndsIn ended old × (t ≡ s)
 StepsTail (Err Read) old new s t = ⊤
 StepsTail (Err OutOfMemory) old new s t = ⊤
-StepsTail (Err NoRecord) old new s t = IsUnsaid old new s
+StepsTail (Err NoRecord) old new s t = IsNotApplied old new s

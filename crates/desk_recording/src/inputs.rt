@@ -9,7 +9,7 @@ ghost use Rattle.desk_wire.specs.OneRequest.{IsTaken};
 ghost use Rattle.desk_wire.specs.Passage.{course};
 ghost use Rattle.desk_cli.specs.Lines.{AreEnrolments, IsPlay};
 ghost use Rattle.desk_program.specs.Recorded.{IsOpen};
-ghost use Rattle.desk_program.specs.Serving.{BringsNews, Closes, Denies, IsDenied, IsFresh, Listens, TakesArrival, arrived, parted, unreported};
+ghost use Rattle.desk_program.specs.Serving.{BringsEnrolments, Closes, AddsNothingNew, IsPortError, IsFresh, Listens, TakesArrival, arrived, parted, unreported};
 ghost use Rattle.desk_recording.specs.Inputs as spec;
 ghost use Rattle.desk_recording.specs.Inputs.{EndsInput, HandsOutNone, IsUnrecorded, PlaysRecorded, input_outside};
 
@@ -44,7 +44,7 @@ pub(crate) enum InputEnd<R, W> {
 impl<R, W> InputEnd<R, W> {
     // The result of the command `play` when its input ends so.
     fn exit_result(self) -> Result<(), ErrorCode>
-        ensures { result ≡ spec.reported_as self }
+        ensures { result ≡ spec.exit_of_input_end self }
     {
         match self {
             InputEnd::AtEnd => Ok(()),
@@ -94,7 +94,7 @@ impl<R: Read + Drop, W: Write + Drop> InputPort<R, W> {
     // its end, or `Limit`.
     fn final_result(&self, done: Result<(), ErrorCode>) -> Result<(), ErrorCode>
         ensures { result
-            ≡ spec.ended_by (option_map spec.reported_as self.now.ended) self.now.is_unframed done }
+            ≡ spec.exit_of_play (option_map spec.exit_of_input_end self.now.ended) self.now.is_unframed done }
     {
         match (self.ended, done) {
             (Some(ended), _) => ended.exit_result(),
@@ -113,7 +113,7 @@ impl<R: Read + Drop, W: Write + Drop> Port for InputPort<R, W> {
     // Does nothing, and succeeds: an input needs no network.
     fn listen(&mut self, _number: u16) -> Result<(), ErrorCode>
         ensures listens { Listens unreported unreported _number (is_ok result) }
-        ensures fault { IfErr result IsDenied }
+        ensures fault { IfErr result IsPortError }
         ensures ok { result ≡ Ok (tt {0}) }
         ensures stays { self.new ≡ self.old }
     {
@@ -124,9 +124,9 @@ impl<R: Read + Drop, W: Write + Drop> Port for InputPort<R, W> {
     fn newly_enrolled(&mut self, alloc: Global) -> Result<Vec<Enrolment>, ErrorCode>
         ensures small { IfOk result (λ newly_enrolled. AreEnrolments newly_enrolled.items) }
         ensures brings { IfOk result (λ newly_enrolled.
-            BringsNews unreported unreported newly_enrolled.items) }
-        ensures same { OnErr result (Denies unreported unreported) }
-        ensures fault { IfErr result IsDenied }
+            BringsEnrolments unreported unreported newly_enrolled.items) }
+        ensures same { OnErr result (AddsNothingNew unreported unreported) }
+        ensures fault { IfErr result IsPortError }
         ensures none { IsOkAnd result (λ newly_enrolled. newly_enrolled.items ≡ []) }
         ensures stays { self.new ≡ self.old }
     {
@@ -140,8 +140,8 @@ impl<R: Read + Drop, W: Write + Drop> Port for InputPort<R, W> {
         ensures taken { IfOk result (λ c. TakesArrival unreported unreported
             (arrived c.moment.second (cursor_remaining (λ v. Some v.items) c.input))) }
         ensures unsent { IfOk result (λ c. IsFresh unreported (Some c.output.items)) }
-        ensures same { OnErr result (Denies unreported unreported) }
-        ensures fault { IfErr result IsDenied }
+        ensures same { OnErr result (AddsNothingNew unreported unreported) }
+        ensures fault { IfErr result IsPortError }
         ensures given { IfOk result (λ c. (c.moment ≡ self.old.moment)
             × IsTaken (R.remaining self.old.input) (R.remaining self.new.input)
             (cursor_inner c.input).items) }
@@ -180,7 +180,7 @@ impl<R: Read + Drop, W: Write + Drop> Port for InputPort<R, W> {
         ensures closed { Closes unreported unreported (parted (cursor_remaining (λ v. Some v.items) input)
             (Some output.items) outcome) }
         ensures recorded { OnOk result (IsOpen unreported.recorded) }
-        ensures fault { IfErr result IsDenied }
+        ensures fault { IfErr result IsPortError }
         ensures ok { result ≡ Ok (tt {0}) }
         ensures sent { EndsInput output.items (course (W.contents self.old.output)
             (W.contents self.new.output)) self.old.ended self.new.ended }

@@ -2,7 +2,7 @@
 
 ghost use Rattle.std.specs.Prelude.{IfErr, List, Option, None};
 ghost use Rattle.std.specs.Result.{is_ok};
-ghost use Rattle.desk_recording.specs.RecordWrites.{Appended, IsOfJournal, MakesWrite, Synced, Write};
+ghost use Rattle.desk_recording.specs.RecordWrites.{Appended, IsJournalFault, MakesWrite, Synced, Write};
 
 use std::alloc::AllocError;
 
@@ -62,7 +62,7 @@ pub(crate) fn append_to<J: Journal>(
 ) -> Result<(), AppendError<J::Fault>>
     ensures done { MakesWrite (J.writes journal.old) (J.writes journal.new) (is_ok result)
         (Appended bytes.now) }
-    ensures fault { IfErr result IsOfJournal }
+    ensures fault { IfErr result IsJournalFault }
 {
     match journal.append(bytes) {
         Ok(()) => Ok(()),
@@ -77,7 +77,7 @@ pub(crate) fn append_to<J: Journal>(
 /// `Journal` if the file fails.
 pub(crate) fn sync_to<J: Journal>(journal: &mut J) -> Result<(), AppendError<J::Fault>>
     ensures done { MakesWrite (J.writes journal.old) (J.writes journal.new) (is_ok result) Synced }
-    ensures fault { IfErr result IsOfJournal }
+    ensures fault { IfErr result IsJournalFault }
 {
     match journal.sync() {
         Ok(()) => Ok(()),

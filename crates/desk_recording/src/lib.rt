@@ -20,6 +20,6 @@ pub use journal::{AppendError, Journal};
 pub use port::RecordedPort;
 pub use record::{Exchange, Record, RecordFault};
 pub use recovering::{RecoveryError, missing_enrolments, recover};
-pub use streams::{Given, Held};
+pub use streams::{BufferedRequest, BufferedResponse};
 pub use tail::{PendingRequest, Tail, TailEnd, TailFault, read_tail};
 pub use written::WrittenRecord;

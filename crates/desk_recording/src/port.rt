@@ -10,7 +10,7 @@ ghost use Rattle.desk_wire.specs.RefusalTexts.{server_error_text};
 ghost use Rattle.desk_wire.specs.declared.response.ServerError.TheVariants.{Store};
 ghost use Rattle.desk_cli.specs.Lines.{AreEnrolments};
 ghost use Rattle.desk_program.specs.Recorded.{IsOpen, with_answer};
-ghost use Rattle.desk_program.specs.Serving.{BringsNews, Closes, Denies, IsDenied, IsFresh, Listens};
+ghost use Rattle.desk_program.specs.Serving.{BringsEnrolments, Closes, AddsNothingNew, IsPortError, IsFresh, Listens};
 ghost use Rattle.desk_program.specs.Serving.{TakesArrival, arrived};
 ghost use Rattle.desk_recording.specs.Recording.{AddsIf, AddsStep, Answered, IsClosedBy, IsTakenFrom, Notes, Sends};
 ghost use Rattle.desk_recording.specs.Recording.{SendsKept, client_of, parting_of};
@@ -20,7 +20,7 @@ ghost use Rattle.desk_recording.specs.Reporting.{parted_in, reported_of};
 
 use crate::receiving::{ReceiveError, ReceiveFault, receive};
 use crate::record::{Exchange, Record, RecordFault};
-use crate::streams::{Given, Held};
+use crate::streams::{BufferedRequest, BufferedResponse};
 use desk_cli::{Enrolment, ErrorCode};
 use desk_program::{ClientStream, ExchangeEnd, Port};
 use desk_wire::ServerError;
@@ -69,9 +69,9 @@ impl<P: Port + Drop, R: Record + Drop> RecordedPort<P, R> {
 }
 
 impl<P: Port + Drop, R: Record + Drop> Port for RecordedPort<P, R> {
-    type Input = Given<P::Input>;
+    type Input = BufferedRequest<P::Input>;
 
-    type Output = Held<P::Output>;
+    type Output = BufferedResponse<P::Output>;
 
     ghost traffic = { λ s. reported_of R.Record s };
 
@@ -80,7 +80,7 @@ impl<P: Port + Drop, R: Record + Drop> Port for RecordedPort<P, R> {
         ensures listens { Listens (reported_of R.Record self.old) (reported_of R.Record self.new) number
             (is_ok result) }
         ensures asked { Listens (P.traffic self.old.port) (P.traffic self.new.port) number (is_ok result) }
-        ensures fault { IfErr result IsDenied }
+        ensures fault { IfErr result IsPortError }
         ensures kept { self.new.broken ≡ self.old.broken }
     {
         self.port.listen(number)
@@ -88,15 +88,15 @@ impl<P: Port + Drop, R: Record + Drop> Port for RecordedPort<P, R> {
 
     // Takes the new enrolments of the port below, and writes them to the journal before the desk makes them.
     // `Broken` if an entry can't be written now, or couldn't before.
-    #[tactic(auto, using(crate::proofs::StepLemmas::brings_news))]
+    #[tactic(auto, using(crate::proofs::StepLemmas::brings_enrolments))]
     fn newly_enrolled(&mut self, alloc: Global) -> Result<Vec<Enrolment>, ErrorCode>
         ensures small { IfOk result (λ newly_enrolled. AreEnrolments newly_enrolled.items) }
         ensures brings { IfOk result (λ newly_enrolled.
-            BringsNews (reported_of R.Record self.old) (reported_of R.Record self.new) newly_enrolled.items) }
-        ensures same { OnErr result (Denies (reported_of R.Record self.old) (reported_of R.Record self.new)) }
-        ensures fault { IfErr result IsDenied }
+            BringsEnrolments (reported_of R.Record self.old) (reported_of R.Record self.new) newly_enrolled.items) }
+        ensures same { OnErr result (AddsNothingNew (reported_of R.Record self.old) (reported_of R.Record self.new)) }
+        ensures fault { IfErr result IsPortError }
         ensures asked { IfOk result (λ newly_enrolled.
-            BringsNews (P.traffic self.old.port) (P.traffic self.new.port) newly_enrolled.items) }
+            BringsEnrolments (P.traffic self.old.port) (P.traffic self.new.port) newly_enrolled.items) }
         ensures broken { IsSome self.old.broken → result ≡ Err ErrorCode.Broken }
         ensures cause { result ≡ Err ErrorCode.Broken → IsSome self.new.broken }
         ensures lost { self.new.broken ≡ Some StopCause.NoAnswer → self.old.broken ≡ Some StopCause.NoAnswer }
@@ -125,14 +125,14 @@ impl<P: Port + Drop, R: Record + Drop> Port for RecordedPort<P, R> {
     fn take(
         &mut self,
         alloc: Global,
-    ) -> Result<ClientStream<Given<P::Input>, Held<P::Output>>, ErrorCode>
+    ) -> Result<ClientStream<BufferedRequest<P::Input>, BufferedResponse<P::Output>>, ErrorCode>
         ensures taken { IfOk result (λ c.
             TakesArrival (reported_of R.Record self.old) (reported_of R.Record self.new)
             (arrived c.moment.second (cursor_remaining (λ v. Some v.items) c.input.request))) }
         ensures unsent { IfOk result (λ c.
             IsFresh (reported_of R.Record self.old) (Some c.output.answer.items)) }
-        ensures same { OnErr result (Denies (reported_of R.Record self.old) (reported_of R.Record self.new)) }
-        ensures fault { IfErr result IsDenied }
+        ensures same { OnErr result (AddsNothingNew (reported_of R.Record self.old) (reported_of R.Record self.new)) }
+        ensures fault { IfErr result IsPortError }
         ensures client { IfOk result (λ c. IsTakenFrom c.moment.second (cursor_inner c.input.request).items
             (is_some c.input.unread) (P.Input.remaining c.input.client)
             (course (P.traffic self.old.port) (P.traffic self.new.port))) }
@@ -156,12 +156,12 @@ impl<P: Port + Drop, R: Record + Drop> Port for RecordedPort<P, R> {
         match self.journal.append_request(taken.moment, &received.request) {
             Ok(()) => Ok(ClientStream {
                 moment: taken.moment,
-                input: Given {
+                input: BufferedRequest {
                     request: Cursor::new(received.request),
                     unread: received.unread,
                     client: taken.input,
                 },
-                output: Held {
+                output: BufferedResponse {
                     answer: Vec::new(alloc),
                     to: taken.output,
                 },
@@ -182,14 +182,14 @@ impl<P: Port + Drop, R: Record + Drop> Port for RecordedPort<P, R> {
     #[tactic(auto, using(crate::proofs::StepLemmas::closes_so, crate::proofs::StepLemmas::is_open))]
     fn close(
         &mut self,
-        input: Given<P::Input>,
-        output: Held<P::Output>,
+        input: BufferedRequest<P::Input>,
+        output: BufferedResponse<P::Output>,
         outcome: ExchangeEnd,
     ) -> Result<(), ErrorCode>
         ensures closed { Closes (reported_of R.Record self.old) (reported_of R.Record self.new)
             (parted_in input output outcome) }
         ensures recorded { OnOk result (IsOpen (reported_of R.Record self.new).recorded) }
-        ensures fault { IfErr result IsDenied }
+        ensures fault { IfErr result IsPortError }
         ensures reported { IsSome self.new.broken → result ≡ Err ErrorCode.Broken }
         ensures cause { result ≡ Err ErrorCode.Broken → IsSome self.new.broken }
         ensures lost { self.new.broken ≡ Some StopCause.NoAnswer
@@ -201,12 +201,12 @@ impl<P: Port + Drop, R: Record + Drop> Port for RecordedPort<P, R> {
             (R.steps self.old.journal) (R.steps self.new.journal)
             (Answered (parted_in input output outcome)) }
     {
-        let Given {
+        let BufferedRequest {
             request,
             client,
             ..
         } = input;
-        let Held { answer, mut to } = output;
+        let BufferedResponse { answer, mut to } = output;
         let connection = Exchange {
             unread: unread_bytes(&request),
             sent: &answer,

@@ -9,10 +9,10 @@ ghost use Rattle.desk_run.specs.DeskWorld.{world_of};
 ghost use Rattle.desk_wire.specs.Passage.{course};
 ghost use Rattle.desk_cli.specs.Exits.{enrolment_failure};
 ghost use Rattle.desk_cli.specs.Lines.{AreEnrolments};
-ghost use Rattle.desk_replay.specs.Replaying.{IsOwn, StaysSettled};
+ghost use Rattle.desk_replay.specs.Replaying.{IsDeskFault, StaysSettled};
 ghost use Rattle.desk_recording.specs.Recording.{AddsStep, Answered, Lost, parting_of};
 ghost use Rattle.desk_recording.specs.Recovering as spec;
-ghost use Rattle.desk_recording.specs.Recovering.{AsksAgain, AsksAgainIfAny, Recovers, ended_as, reported_again, undone};
+ghost use Rattle.desk_recording.specs.Recovering.{RedoesRequest, RedoesIfPending, Recovers, ended_as, parting_without_client, undone};
 ghost use Rattle.desk_recording.specs.Tail.{unanswered_in, unanswered_shown};
 
 use crate::record::{Exchange, Record, RecordFault};
@@ -152,7 +152,7 @@ fn redo_if_pending<S: PlanStore, R: Record>(
     asked: Option<PendingRequest>,
     journal: &mut R,
 ) -> Result<(), RecoveryError<R>>
-    ensures asks { AsksAgainIfAny (IsHonest (S.doubt desk.new.store)) (unanswered_in asked)
+    ensures asks { RedoesIfPending (IsHonest (S.doubt desk.new.store)) (unanswered_in asked)
         (course (world_of S.content desk.old) (world_of S.content desk.new))
         (course (R.steps journal.old) (R.steps journal.new)) (ended_as result) }
     ensures remembered { Remembers S.doubt S.faults S.is_shielded desk.old.store desk.new.store }
@@ -176,7 +176,7 @@ fn redo_request<S: PlanStore, R: Record>(
     asked: PendingRequest,
     journal: &mut R,
 ) -> Result<(), RecoveryError<R>>
-    ensures asks { AsksAgain (IsHonest (S.doubt desk.new.store)) (unanswered_shown asked)
+    ensures asks { RedoesRequest (IsHonest (S.doubt desk.new.store)) (unanswered_shown asked)
         (course (world_of S.content desk.old) (world_of S.content desk.new))
         (course (R.steps journal.old) (R.steps journal.new)) (ended_as result) }
     ensures remembered { Remembers S.doubt S.faults S.is_shielded desk.old.store desk.new.store }
@@ -209,9 +209,9 @@ fn redo_request<S: PlanStore, R: Record>(
 fn record_redone_answer<R: Record>(journal: &mut R, answer: &[u8]) -> Result<(), RecoveryError<R>>
     ensures ok { OnOk result
         (AddsStep (R.steps journal.old) (R.steps journal.new)
-        (Answered (reported_again answer.now))) }
+        (Answered (parting_without_client answer.now))) }
     ensures err { IfErr result (λ why. (spec.failure_of why ≡ ErrorCode.Broken)
-        × AddsStep (R.steps journal.old) (R.steps journal.new) (Lost (reported_again answer.now))) }
+        × AddsStep (R.steps journal.old) (R.steps journal.new) (Lost (parting_without_client answer.now))) }
 {
     let connection = exchange_without_client(answer);
     match journal.append_answer(connection) {
@@ -225,7 +225,7 @@ fn record_redone_answer<R: Record>(journal: &mut R, answer: &[u8]) -> Result<(),
 
 // The exchange of a repeated request, which has no client: the request was read whole and got this answer.
 fn exchange_without_client(answer: &[u8]) -> Exchange<'_>
-    ensures { parting_of result ≡ spec.reported_again answer.now }
+    ensures { parting_of result ≡ spec.parting_without_client answer.now }
 {
     Exchange {
         unread: b"",
@@ -242,7 +242,7 @@ fn exchange_without_client(answer: &[u8]) -> Exchange<'_>
 fn replay_error<R>(fault: ReplayFault) -> RecoveryError<R>
     ensures memory_or_store { (spec.failure_of result ≡ ErrorCode.Memory)
         ⊎ (spec.failure_of result ≡ ErrorCode.Store) }
-    ensures cause { IsOwn fault → spec.failure_of result ≡ ErrorCode.Store → fault ≡ ReplayFault.Store }
+    ensures cause { IsDeskFault fault → spec.failure_of result ≡ ErrorCode.Store → fault ≡ ReplayFault.Store }
 {
     match fault {
         ReplayFault::OutOfMemory => RecoveryError::OutOfMemory,

@@ -10,14 +10,14 @@ use std::io::{self, Cursor, Read, Write};
 
 /// A client and its request, which is in the journal already. The desk reads the request from this buffer.
 #[derive(Drop)]
-pub struct Given<I> {
+pub struct BufferedRequest<I> {
     pub(crate) request: Cursor<Vec<u8>>,
     // Why the client's bytes could not be read, if so: then the request is empty, and not in the journal.
     pub(crate) unread: Option<ReceiveError<I>>,
     pub(crate) client: I,
 }
 
-impl<I> Read for Given<I> {
+impl<I> Read for BufferedRequest<I> {
     ghost remaining = { λ s. cursor_remaining (λ v. Some v.items) s.request };
 
     // Reads from the buffered request.
@@ -29,12 +29,12 @@ impl<I> Read for Given<I> {
 /// A client (`to`) and its answer, which the desk writes into this buffer. The answer is appended to the
 /// journal before it is sent.
 #[derive(Drop)]
-pub struct Held<O> {
+pub struct BufferedResponse<O> {
     pub(crate) answer: Vec<u8>,
     pub(crate) to: O,
 }
 
-impl<O> Write for Held<O> {
+impl<O> Write for BufferedResponse<O> {
     ghost contents = { λ s. Some s.answer.items };
 
     // Appends to the buffered answer.

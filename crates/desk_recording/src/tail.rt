@@ -2,10 +2,10 @@
 
 ghost use Rattle.std.specs.Prelude.{◌≡◌, IfErr, IfOk};
 ghost use Rattle.std.specs.Io.KnownBytes.{Consumes};
-ghost use Rattle.desk_record.specs.Reading.{entry_shown};
+ghost use Rattle.desk_record.specs.Reading.{entry_parts};
 ghost use Rattle.desk_record.specs.Record.{entry};
 ghost use Rattle.desk_recording.specs.Tail as spec;
-ghost use Rattle.desk_recording.specs.Tail.{HasNoTail, IsTail, Notes, StepsTail, nothing_said, said, tail_shown};
+ghost use Rattle.desk_recording.specs.Tail.{HasNoTail, IsTail, Notes, StepsTail, empty_tail, tail_with, tail_shown};
 
 use desk_cli::Enrolment;
 use desk_record::{Entry, Kind, ReadFault, lengths, read_entry};
@@ -86,7 +86,7 @@ impl From<AllocError> for TailFault {
 impl Tail {
     // What no entries say: the state before the first entry.
     fn empty(alloc: Global) -> Tail
-        ensures { tail_shown result ≡ nothing_said }
+        ensures { tail_shown result ≡ empty_tail }
     {
         Tail {
             record: None,
@@ -145,9 +145,9 @@ fn read_next_entry<R: Read>(
 
 // Applies an entry to `tail` and adds its length to `tail.size`. The first entry has to be the header, of the
 // kind `Record`; else the error is `NoRecord`.
-#[tactic(auto, unfolding(crate::specs::Tail::said))]
+#[tactic(auto, unfolding(crate::specs::Tail::tail_with))]
 fn apply_entry(tail: &mut Tail, entry: Entry) -> Result<(), TailFault>
-    ensures { Notes result (said (tail_shown tail.old) (entry_shown entry)) (tail_shown tail.new) }
+    ensures { Notes result (tail_with (tail_shown tail.old) (entry_parts entry)) (tail_shown tail.new) }
 {
     let Entry {
         kind,
@@ -165,7 +165,7 @@ fn apply_entry(tail: &mut Tail, entry: Entry) -> Result<(), TailFault>
 // Applies an entry to `tail`, by its kind. `NoRecord` if no desk writes such an entry here; for example,
 // entries of the kinds `Permitted`, `Spans` and `Cells` have no bytes of their own.
 fn apply_by_kind(tail: &mut Tail, kind: Kind, number: u64, bytes: Vec<u8>) -> Result<(), TailFault>
-    ensures { Notes result (spec.said_within kind (tail_shown tail.old) number bytes.items)
+    ensures { Notes result (spec.tail_with_kind kind (tail_shown tail.old) number bytes.items)
         (tail_shown tail.new) }
 {
     match kind {
@@ -184,9 +184,9 @@ fn apply_by_kind(tail: &mut Tail, kind: Kind, number: u64, bytes: Vec<u8>) -> Re
 
 // Applies the header to `tail`: the file's number and the version of the format. `NoRecord` if it isn't the
 // first entry or the version is another.
-#[tactic(auto, unfolding(crate::specs::Tail::said_record))]
+#[tactic(auto, unfolding(crate::specs::Tail::tail_with_header))]
 fn apply_header(tail: &mut Tail, number: u64, version: &[u8]) -> Result<(), TailFault>
-    ensures { Notes result (spec.said_record (tail_shown tail.old) number version.now)
+    ensures { Notes result (spec.tail_with_header (tail_shown tail.old) number version.now)
         (tail_shown tail.new) }
 {
     if tail.record.is_some() {
@@ -200,9 +200,9 @@ fn apply_header(tail: &mut Tail, number: u64, version: &[u8]) -> Result<(), Tail
 }
 
 // Adds a permitted priority to `tail`. `NoRecord` if it is above 1,000, or invalid beside those before it.
-#[tactic(auto, unfolding(crate::specs::Tail::said_permitted))]
+#[tactic(auto, unfolding(crate::specs::Tail::tail_with_permitted))]
 fn apply_permitted(tail: &mut Tail, priority: u64) -> Result<(), TailFault>
-    ensures { Notes result (spec.said_permitted (tail_shown tail.old) priority) (tail_shown tail.new) }
+    ensures { Notes result (spec.tail_with_permitted (tail_shown tail.old) priority) (tail_shown tail.new) }
 {
     if priority > u64::from(MAX_PRIORITY) {
         return Err(TailFault::NoRecord);
@@ -218,9 +218,9 @@ fn apply_permitted(tail: &mut Tail, priority: u64) -> Result<(), TailFault>
 }
 
 // Sets the limit on the spans of an operator's live plans. `NoRecord` if it is 0 or above `MAX_SPANS`.
-#[tactic(auto, unfolding(crate::specs::Tail::said_spans))]
+#[tactic(auto, unfolding(crate::specs::Tail::tail_with_spans))]
 fn apply_spans_limit(tail: &mut Tail, spans: u64) -> Result<(), TailFault>
-    ensures { Notes result (spec.said_spans (tail_shown tail.old) spans) (tail_shown tail.new) }
+    ensures { Notes result (spec.tail_with_spans (tail_shown tail.old) spans) (tail_shown tail.new) }
 {
     if spans < 1 || spans > u64::from(MAX_SPANS) {
         return Err(TailFault::NoRecord);
@@ -230,9 +230,9 @@ fn apply_spans_limit(tail: &mut Tail, spans: u64) -> Result<(), TailFault>
 }
 
 // Sets the limit on the cells of all plans of an operator. `NoRecord` if it is 0 or above `MAX_TOTAL_CELLS`.
-#[tactic(auto, unfolding(crate::specs::Tail::said_cells))]
+#[tactic(auto, unfolding(crate::specs::Tail::tail_with_cells))]
 fn apply_cells_limit(tail: &mut Tail, cells: u64) -> Result<(), TailFault>
-    ensures { Notes result (spec.said_cells (tail_shown tail.old) cells) (tail_shown tail.new) }
+    ensures { Notes result (spec.tail_with_cells (tail_shown tail.old) cells) (tail_shown tail.new) }
 {
     if cells < 1 || cells > u64::from(MAX_TOTAL_CELLS) {
         return Err(TailFault::NoRecord);
@@ -242,9 +242,9 @@ fn apply_cells_limit(tail: &mut Tail, cells: u64) -> Result<(), TailFault>
 }
 
 // Adds an operator with this name and ceiling to `tail`. `NoRecord` if its name or its ceiling is invalid.
-#[tactic(auto, unfolding(crate::specs::Tail::said_operator))]
+#[tactic(auto, unfolding(crate::specs::Tail::tail_with_operator))]
 fn apply_operator(tail: &mut Tail, ceiling: u64, name: &[u8]) -> Result<(), TailFault>
-    ensures { Notes result (spec.said_operator (tail_shown tail.old) ceiling name.now)
+    ensures { Notes result (spec.tail_with_operator (tail_shown tail.old) ceiling name.now)
         (tail_shown tail.new) }
 {
     let Some(operator) = Operator::try_new(name) else {
@@ -266,9 +266,9 @@ fn apply_operator(tail: &mut Tail, ceiling: u64, name: &[u8]) -> Result<(), Tail
 
 // Notes a request, which has no answer yet, and drops the operators before it: the desk has enrolled these.
 // `NoRecord` if the request before has no answer, or the second is out of range.
-#[tactic(auto, unfolding(crate::specs::Tail::said_request))]
+#[tactic(auto, unfolding(crate::specs::Tail::tail_with_request))]
 fn apply_request(tail: &mut Tail, second: u64, request: Vec<u8>) -> Result<(), TailFault>
-    ensures { Notes result (spec.said_request (tail_shown tail.old) second request.items)
+    ensures { Notes result (spec.tail_with_request (tail_shown tail.old) second request.items)
         (tail_shown tail.new) }
 {
     if tail.asked.is_some() {
@@ -284,9 +284,9 @@ fn apply_request(tail: &mut Tail, second: u64, request: Vec<u8>) -> Result<(), T
 
 // Notes the answer to the last request. After a 500 the request still counts as unanswered. `NoRecord` if no
 // request waits for an answer, or `second` isn't that of the request.
-#[tactic(auto, unfolding(crate::specs::Tail::said_answer))]
+#[tactic(auto, unfolding(crate::specs::Tail::tail_with_answer))]
 fn apply_answer(tail: &mut Tail, second: u64, answer: &[u8]) -> Result<(), TailFault>
-    ensures { Notes result (spec.said_answer (tail_shown tail.old) second answer.now)
+    ensures { Notes result (spec.tail_with_answer (tail_shown tail.old) second answer.now)
         (tail_shown tail.new) }
 {
     let Some(asked) = &tail.asked else {

@@ -9,7 +9,7 @@ ghost use Rattle.desk_recording.specs.Recording.{AddsIf, Answered, Asked, Enroll
 ghost use Rattle.desk_recording.specs.Recording.{parting_of};
 ghost use Rattle.desk_recording.specs.RecordWrites.{Appended, AppendsKnown, Failed, FollowsWrites, IsNotWritten, MakesWrite};
 ghost use Rattle.desk_recording.specs.RecordWrites.{StopsWriting, Synced, answer_writes, appended_writes};
-ghost use Rattle.desk_recording.specs.RecordWrites.{news_writes, noted_in, request_writes};
+ghost use Rattle.desk_recording.specs.RecordWrites.{enrolment_writes, noted_in, request_writes};
 
 use crate::journal::{AppendError, Journal, append_to, sync_to};
 use crate::record::{Exchange, Record};
@@ -130,7 +130,7 @@ impl<J: Journal + Drop> Record for WrittenRecord<J> {
         ensures named { IfSome (noted_in self.old.second (J.writes self.old.journal))
             (λ _. OnOk result (AreNamed newly_enrolled.now)) }
         ensures writes { OnOk result (FollowsWrites (J.writes self.old.journal) (J.writes self.new.journal)
-            (news_writes newly_enrolled.now)) }
+            (enrolment_writes newly_enrolled.now)) }
         ensures stops { OnErr result (StopsWriting (J.writes self.old.journal) (J.writes self.new.journal)
             (Appended (entries (map operator_entry newly_enrolled.now)))) }
     {

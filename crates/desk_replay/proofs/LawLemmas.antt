@@ -8,11 +8,11 @@ use Rattle.std.proofs.lemmas.Slice.Eq.{bytes_eq-Decides}
 use Rattle.request_parser.specs.Requests.{asked}
 use Rattle.desk_wire.specs.AllAnswers.{world_left}
 use Rattle.desk_wire.specs.Bytes.{makes_change_for, text_for, world_after}
-use Rattle.desk_replay.specs.Replaying.{AskingParts, State, taken_answer, asked_now, answered_by, counted, is_failure, is_first, last_moment, played, requested, taken, then_taken, with_change}
-use Rattle.desk_replay.specs.WrittenDown.{Heard, IsTimely, answering_entry, asking_entry, sent, written}
+use Rattle.desk_replay.specs.Replaying.{AskingParts, State, answer_outcome, asked_now, answered_by, counted, is_failure, is_first, last_moment, played, requested, taken, then_taken, with_change}
+use Rattle.desk_replay.specs.WrittenDown.{TimedRequest, IsTimely, answering_entry, asking_entry, sent, written}
 
 -- the state in which a request waits for its answer, and the one after it
-asked_of : State → Heard → State
+asked_of : State → TimedRequest → State
 asked_of s r = record s {
   world = world_after s.world (pos r.second) (asked r.request);
   asking = Some (record {
@@ -27,7 +27,7 @@ asked_of s r = record s {
   changes = with_change false (makes_change_for s.world (pos r.second) (asked r.request)) s.changes;
 }
 
-after : State → Heard → State
+after : State → TimedRequest → State
 after s r = record s {
   world = world_after s.world (pos r.second) (asked r.request);
   asking = None;
@@ -42,7 +42,7 @@ begun_is (Some n) h = refl
 timely : (n : ℕ) → n ≤ last_moment → nat_lt last_moment n ≡ false
 timely n low = grind (arith, nat_tests)
 
-is_asked : (s : State) (r : Heard) → IsSome s.record_number → s.asking ≡ None → IsTimely r
+is_asked : (s : State) (r : TimedRequest) → IsSome s.record_number → s.asking ≡ None → IsTimely r
     → taken s (asking_entry r) ≡ Ok (asked_of s r)
 unfolding taken requested asked_of
 is_asked s r begun none low = rw (begun_is s.record_number begun, timely r.second low, none) refl
@@ -50,9 +50,9 @@ is_asked s r begun none low = rw (begun_is s.record_number begun, timely r.secon
 same : (xs : List ℕ) → bytes_eq xs xs ≡ true
 same xs = (bytes_eq-Decides xs xs).1 refl
 
-is_answered : (s : State) (r : Heard) → IsSome s.record_number
+is_answered : (s : State) (r : TimedRequest) → IsSome s.record_number
     → taken (asked_of s r) (answering_entry s.world r) ≡ Ok (after s r)
-unfolding taken taken_answer asked_of after
+unfolding taken answer_outcome asked_of after
 is_answered s r begun =
     rw (
       begun_is s.record_number begun,
@@ -60,7 +60,7 @@ is_answered s r begun =
       same (text_for s.world (pos r.second) (asked r.request)),
     ) refl
 
-pub is_replayed : (s : State) (rs : List Heard) → IsSome s.record_number → s.asking ≡ None
+pub is_replayed : (s : State) (rs : List TimedRequest) → IsSome s.record_number → s.asking ≡ None
     → AllByRecursion IsTimely rs → (t : State) × (played s (written s.world rs) ≡ Ok t)
     × (t.world ≡ world_left s.world (map sent rs)) × (t.asking ≡ None)
 unfolding played after

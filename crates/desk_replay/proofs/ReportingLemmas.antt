@@ -3,14 +3,14 @@ use Rattle.std.proofs.Common.{◌≡◌, ◌≢◌, ◌<◌, ℕ, List, [], Opti
 use Rattle.std.proofs.lemmas.List.{take-append-drop}
 use Rattle.io_ends.specs.Writing.{BreaksOff}
 use Rattle.io_ends.specs.declared.writing.PartialWrite.{PartialWrite}
-use Rattle.desk_cli.specs.Written.{HasBegun}
+use Rattle.desk_cli.specs.Written.{IsPartlyWritten}
 
 some_left : (n : ℕ) (bytes : List ℕ) → n < length bytes → drop n bytes ≢ []
 some_left n bytes short none = omega (arith, short, ap length none, length-drop n bytes)
 
 -- what a write that broke off leaves
 pub begun_part : (bytes : List ℕ) (out now : Option (List ℕ)) (fault : PartialWrite)
-    → BreaksOff bytes out now fault → HasBegun bytes out now
+    → BreaksOff bytes out now fault → IsPartlyWritten bytes out now
 begun_part bytes out now fault off = record {
   begun = take fault.sent bytes;
   rest = drop fault.sent bytes;

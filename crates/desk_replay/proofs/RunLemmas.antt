@@ -6,7 +6,7 @@ use Rattle.std.proofs.KnownBytes.{Consumes-nil, Consumes-trans}
 use Rattle.desk_record.specs.Record.{EntryParts, Fits, entries, entry}
 use Rattle.desk_run.specs.DeskWorld.{DeskWorld}
 use Rattle.desk_wire.specs.Passage.{course}
-use Rattle.desk_replay.specs.Replaying.{IsOwn, Outcome, State, played, taken, then_taken}
+use Rattle.desk_replay.specs.Replaying.{IsDeskFault, Outcome, State, played, taken, then_taken}
 use Rattle.desk_replay.specs.Running.{AreEntriesPlayed, Ends, HasReplayed, IsEntryPlayed, size_of, start}
 use Rattle.desk_replay.specs.declared.stream.ReplayEnd.{ReplayEnd}
 use Rattle.desk_replay.specs.declared.stream.ReplayEnd.TheVariants.{End, Until, Unread, Unplayed}
@@ -82,7 +82,7 @@ ends_at until (Unplayed fault) mid new s t h same = record {
   fits = h.fits;
   read = h.read;
   refused = λ honest.
-      subst (λ v. IsOwn fault ⊎ (taken v h.one ≡ Err fault)) (sym (same honest)) (h.refused honest);
+      subst (λ v. IsDeskFault fault ⊎ (taken v h.one ≡ Err fault)) (sym (same honest)) (h.refused honest);
 }
 
 -- no entry more

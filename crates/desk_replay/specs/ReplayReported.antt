@@ -8,7 +8,7 @@ use Rattle.desk_store.specs.StoreFaults.{IsHonest}
 use Rattle.desk_run.specs.DeskWorld.{DeskWorld, Parts, world_of}
 use Rattle.desk_wire.specs.Passage.{Course, Passage}
 use Rattle.desk_cli.specs.Exits.{EndsWith, Ending, FailsWith}
-use Rattle.desk_cli.specs.Written.{HasBegun, HasWritten}
+use Rattle.desk_cli.specs.Written.{IsPartlyWritten, IsWrittenOrCut}
 use Rattle.desk_cli.specs.declared.failure.ErrorCode.{ErrorCode}
 use Rattle.desk_cli.specs.declared.failure.ErrorCode.TheVariants as failure
 use Rattle.desk_replay.specs.declared.fault.ReplayFault.TheVariants as fault
@@ -62,7 +62,7 @@ replayed_line requests changes =
 abbrev pub IsLinePrinted : Result ⊤ ErrorCode → List ℕ → Option (List ℕ) → Option (List ℕ) → Type 0
 IsLinePrinted (Ok done) line out now = Appends out now line
 IsLinePrinted (Err f) line out now =
-    ((f ≡ failure.Write) × HasBegun line out now) ⊎ ((f ≡ failure.Memory) × (now ≡ out))
+    ((f ≡ failure.Write) × IsPartlyWritten line out now) ⊎ ((f ≡ failure.Memory) × (now ≡ out))
 
 -- all was replayed, and the summary is printed, or that failed and is how the command ends
 pub record IsAllPlayed (line : List ℕ) (end : Ending) (writes : Course (Option (List ℕ))) : Type 0 where
@@ -73,7 +73,7 @@ pub record IsAllPlayed (line : List ℕ) (end : Ending) (writes : Course (Option
 -- a line is written whole, or, if a write failed, a beginning of it
 pub record IsLineWritten (line : List ℕ) (out now : Option (List ℕ)) : Type 0 where
   pub is_cut : Bool
-  pub written : HasWritten is_cut line out now
+  pub written : IsWrittenOrCut is_cut line out now
 
 -- nothing goes to the output. To the error writer goes first the line that says where and why, up to a write
 -- that fails, or nothing if memory ran out; and then the error code

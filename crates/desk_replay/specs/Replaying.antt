@@ -21,7 +21,7 @@ use Rattle.desk_wire.specs.RefusalTexts.{server_error_text}
 use Rattle.desk_wire.specs.declared.response.ServerError.TheVariants as error
 use Rattle.desk_replay.specs.declared.fault.ReplayFault.{ReplayFault}
 use Rattle.desk_replay.specs.declared.fault.ReplayFault.TheVariants.{OutOfMemory, Store, NoRecord, NotNext, Differs}
-use Rattle.desk_replay.specs.declared.progress.Asking.{Asking}
+use Rattle.desk_replay.specs.declared.progress.UnansweredRequest.{UnansweredRequest}
 use Rattle.desk_replay.specs.declared.progress.Progress.{Progress}
 
 -- a request whose recorded answer is still to come
@@ -48,7 +48,7 @@ abbrev pub bytes_of : {V : Type 0} → (V → List ℕ) → Option V → Option 
 bytes_of items None = None
 bytes_of items (Some v) = Some (items v)
 
-abbrev pub asking_shown : Asking → AskingParts
+abbrev pub asking_shown : UnansweredRequest → AskingParts
 asking_shown a = record {
   second = a.second;
   request = a.request.items;
@@ -58,7 +58,7 @@ asking_shown a = record {
   made_change = a.made_change;
 }
 
-abbrev pub asking_in : Option Asking → Option AskingParts
+abbrev pub asking_in : Option UnansweredRequest → Option AskingParts
 asking_in None = None
 asking_in (Some a) = Some (asking_shown a)
 
@@ -134,8 +134,8 @@ permitted s p =
     (permitted_by s (s.permitted ++ (p ∷ [])) (permitted_in (s.permitted ++ (p ∷ []))))
 
 -- the outcome of an entry that limits the spans of an operator's live plans to n
-unfoldable pub spanned : State → ℕ → Outcome
-spanned s n =
+unfoldable pub span_limit_outcome : State → ℕ → Outcome
+span_limit_outcome s n =
     refuse_if (not (nat_le 1 n && nat_le n max_spans)) NoRecord
     (Ok (record s {
       world = record s.world { terms = record s.terms { spans = Some n } };
@@ -143,8 +143,8 @@ spanned s n =
     }))
 
 -- the outcome of an entry that limits the cells of all plans of an operator to n
-unfoldable pub celled : State → ℕ → Outcome
-celled s n =
+unfoldable pub cell_limit_outcome : State → ℕ → Outcome
+cell_limit_outcome s n =
     refuse_if (not (nat_le 1 n && nat_le n max_total_cells)) NoRecord
     (Ok (record s {
       world = record s.world { terms = record s.terms { cells = Some n } };
@@ -227,34 +227,34 @@ is_first None answer = false
 is_first (Some before) answer = bytes_eq answer before
 
 -- whether a recorded answer is the desk's, now or when the request was carried out first
-abbrev pub is_alike : AskingParts → List ℕ → Bool
-is_alike a answer = bytes_eq answer a.answer || is_first a.before answer
+abbrev pub is_expected_answer : AskingParts → List ℕ → Bool
+is_expected_answer a answer = bytes_eq answer a.answer || is_first a.before answer
 
 -- the outcome of a recorded answer to the unanswered request; after a 500 the request stays unanswered
 abbrev pub answered_by : State → Option AskingParts → ℕ → List ℕ → Outcome
 answered_by s None second answer = Err NoRecord
 answered_by s (Some a) second answer =
     refuse_if (a.reopened || not (a.second == second)) NoRecord
-    (if is_alike a answer then Ok (record s { asking = None })
+    (if is_expected_answer a answer then Ok (record s { asking = None })
     else refuse_if (not (is_failure answer)) Differs (Ok s))
 
 -- the outcome of an entry of an answer
-unfoldable pub taken_answer : State → ℕ → List ℕ → Outcome
-taken_answer s second answer = answered_by s s.asking second answer
+unfoldable pub answer_outcome : State → ℕ → List ℕ → Outcome
+answer_outcome s second answer = answered_by s s.asking second answer
 
 -- the outcome `next` of an entry that may have no bytes
 abbrev pub bare : List ℕ → Outcome → Outcome
 bare bytes next = refuse_if (not (length bytes == 0)) NoRecord next
 
 -- the outcome of an entry that isn't the first of its journal file
-abbrev pub taken_within : Kind → State → ℕ → List ℕ → Outcome
-taken_within kind.Record s n bytes = Err NoRecord
-taken_within kind.Permitted s n bytes = bare bytes (permitted s n)
-taken_within kind.Spans s n bytes = bare bytes (spanned s n)
-taken_within kind.Cells s n bytes = bare bytes (celled s n)
-taken_within kind.Operator s n bytes = listed s n bytes
-taken_within kind.Request s n bytes = requested s n bytes
-taken_within kind.Answer s n bytes = taken_answer s n bytes
+abbrev pub outcome_after_header : Kind → State → ℕ → List ℕ → Outcome
+outcome_after_header kind.Record s n bytes = Err NoRecord
+outcome_after_header kind.Permitted s n bytes = bare bytes (permitted s n)
+outcome_after_header kind.Spans s n bytes = bare bytes (span_limit_outcome s n)
+outcome_after_header kind.Cells s n bytes = bare bytes (cell_limit_outcome s n)
+outcome_after_header kind.Operator s n bytes = listed s n bytes
+outcome_after_header kind.Request s n bytes = requested s n bytes
+outcome_after_header kind.Answer s n bytes = answer_outcome s n bytes
 
 -- whether an entry is the first of a journal file
 abbrev pub is_record : Kind → Bool
@@ -270,7 +270,7 @@ is_record kind.Answer = false
 unfoldable pub taken : State → EntryParts → Outcome
 taken s e =
     if is_record e.kind then begun s e.number e.bytes
-    else refuse_if (is_none s.record_number) NoRecord (taken_within e.kind s e.number e.bytes)
+    else refuse_if (is_none s.record_number) NoRecord (outcome_after_header e.kind s e.number e.bytes)
 
 abbrev pub then_taken : (State → Outcome) → Outcome → Outcome
 then_taken next (Ok s) = next s
@@ -282,8 +282,8 @@ played s [] = Ok s
 played s (e ∷ es) = then_taken (λ t. played t es) (taken s e)
 
 -- a fault of the desk itself, which says nothing about the journal
-abbrev pub IsOwn : ReplayFault → Type 0
-IsOwn fault = (fault ≡ OutOfMemory) ⊎ (fault ≡ Store)
+abbrev pub IsDeskFault : ReplayFault → Type 0
+IsDeskFault fault = (fault ≡ OutOfMemory) ⊎ (fault ≡ Store)
 
 -- if the next start could find only the desk's content before, it finds only the new desk's content now
 abbrev pub StaysSettled : {S : Type 0} → Ghosts S → Parts S → Parts S → Type 0
@@ -294,7 +294,7 @@ StaysSettled g old new = IsHonest (g.doubt new.store) → IsSettled g.content g.
 -- the state is unchanged
 abbrev pub GivesOutcome : Result ⊤ ReplayFault → Outcome → State → State → Type 0
 GivesOutcome (Ok done) outcome old new = outcome ≡ Ok new
-GivesOutcome (Err fault) outcome old new = (IsOwn fault ⊎ (outcome ≡ Err fault)) × (new ≡ old)
+GivesOutcome (Err fault) outcome old new = (IsDeskFault fault ⊎ (outcome ≡ Err fault)) × (new ≡ old)
 
 -- the result `done` and the new state are the outcome of `step` at the desk and the progress before
 abbrev pub StepsAt :

@@ -12,7 +12,7 @@ use Rattle.desk_wire.specs.Passage.{Course, course}
 use Rattle.desk_replay.specs.declared.fault.ReplayFault.{ReplayFault}
 use Rattle.desk_replay.specs.declared.stream.ReplayEnd.{ReplayEnd}
 use Rattle.desk_replay.specs.declared.stream.ReplayEnd.TheVariants.{End, Until, Unread, Unplayed}
-use Rattle.desk_replay.specs.Replaying.{IsOwn, State, played, taken}
+use Rattle.desk_replay.specs.Replaying.{IsDeskFault, State, played, taken}
 
 -- the state before the first entry: no journal file has begun
 abbrev pub start : DeskWorld → State
@@ -27,15 +27,15 @@ start w = record {
 }
 
 -- whether an entry is a request whose second is greater than `until`
-abbrev pub is_too_late : Option ℕ → Kind → ℕ → Bool
-is_too_late None reported n = false
-is_too_late (Some last) kind.Record n = false
-is_too_late (Some last) kind.Permitted n = false
-is_too_late (Some last) kind.Spans n = false
-is_too_late (Some last) kind.Cells n = false
-is_too_late (Some last) kind.Operator n = false
-is_too_late (Some last) kind.Request n = nat_lt last n
-is_too_late (Some last) kind.Answer n = false
+abbrev pub is_request_after : Option ℕ → Kind → ℕ → Bool
+is_request_after None reported n = false
+is_request_after (Some last) kind.Record n = false
+is_request_after (Some last) kind.Permitted n = false
+is_request_after (Some last) kind.Spans n = false
+is_request_after (Some last) kind.Cells n = false
+is_request_after (Some last) kind.Operator n = false
+is_request_after (Some last) kind.Request n = nat_lt last n
+is_request_after (Some last) kind.Answer n = false
 
 -- the length of a text in bytes, at most the greatest number of 64 bits
 abbrev pub size_of : List ℕ → ℕ
@@ -56,14 +56,14 @@ pub record IsEntryRefused (H : Type 0) (fault : ReplayFault) (reads : Course (Op
   pub one : EntryParts
   pub fits : Fits one
   pub read : Consumes reads.before reads.after (entry one)
-  pub refused : H → IsOwn fault ⊎ (taken s one ≡ Err fault)
+  pub refused : H → IsDeskFault fault ⊎ (taken s one ≡ Err fault)
 
 -- a request is read whose second is greater than `until`
 pub record IsTooLate (until : Option ℕ) (reads : Course (Option (List ℕ))) : Type 0 where
   pub one : EntryParts
   pub fits : Fits one
   pub read : Consumes reads.before reads.after (entry one)
-  pub later : IsTrue (is_too_late until one.kind one.number)
+  pub later : IsTrue (is_request_after until one.kind one.number)
 
 -- why the replay ended
 abbrev pub Ends : Type 0 → Option ℕ → ReplayEnd → Course (Option (List ℕ)) → State → Type 0

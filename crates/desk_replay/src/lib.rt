@@ -13,5 +13,5 @@ pub use fault::ReplayFault;
 pub use laws::replayed;
 pub use line::replay_opened;
 pub use play::{answer_one, is_500};
-pub use progress::{Asking, Progress};
+pub use progress::{Progress, UnansweredRequest};
 pub use stream::{ReplayEnd, Replayed, replay};

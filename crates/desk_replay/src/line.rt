@@ -6,7 +6,7 @@ ghost use Rattle.desk_store.specs.StoreFrames.{Remembers};
 ghost use Rattle.desk_run.specs.DeskWorld.{world_of};
 ghost use Rattle.desk_wire.specs.Passage.{course, passage};
 ghost use Rattle.desk_cli.specs.Exits.{ending};
-ghost use Rattle.desk_cli.specs.Written.{HasWritten};
+ghost use Rattle.desk_cli.specs.Written.{IsWrittenOrCut};
 ghost use Rattle.desk_replay.specs.ReplayReported as spec;
 ghost use Rattle.desk_replay.specs.ReplayReported.{IsLinePrinted, IsLineWritten, IsReplayReported, IsReplayed};
 ghost use Rattle.desk_replay.specs.ReplayReported.{IsUnplayed, Replays, place_line, replayed_line};
@@ -175,7 +175,7 @@ fn cause_line(alloc: Global, requests: u64, place: u64, cause: &str) -> Result<S
 // Writes `text`, up to the first write that fails, and returns the write error, if there was one.
 #[tactic(auto, using(crate::proofs::ReportingLemmas::begun_part))]
 fn write_line<E: Write>(errors: &mut E, text: &str) -> Option<WriteError<E>>
-    ensures { HasWritten (is_some result) text.now (E.contents errors.old) (E.contents errors.new) }
+    ensures { IsWrittenOrCut (is_some result) text.now (E.contents errors.old) (E.contents errors.new) }
 {
     match write_whole(errors, text.as_bytes()) {
         Ok(()) => None,

@@ -7,14 +7,14 @@ ghost use Rattle.request_parser.specs.Requests.{asked as asked_in};
 ghost use Rattle.desk_run.specs.DeskWorld.{DeskWorld, world_of};
 ghost use Rattle.desk_wire.specs.Bytes.{makes_change_for, text_for, world_after};
 ghost use Rattle.desk_wire.specs.Passage.{course};
-ghost use Rattle.desk_record.specs.Reading.{entry_shown};
+ghost use Rattle.desk_record.specs.Reading.{entry_parts};
 ghost use Rattle.desk_replay.specs.Replaying as spec;
-ghost use Rattle.desk_replay.specs.Replaying.{GivesOutcome, IsOwn, StaysSettled, StepsAt, asking_in, asking_shown, bytes_of, is_failure};
-ghost use Rattle.desk_replay.specs.Replaying.{progress_state, request_turn, requested, taken, taken_answer};
+ghost use Rattle.desk_replay.specs.Replaying.{GivesOutcome, IsDeskFault, StaysSettled, StepsAt, asking_in, asking_shown, bytes_of, is_failure};
+ghost use Rattle.desk_replay.specs.Replaying.{progress_state, request_turn, requested, taken, answer_outcome};
 ghost use Rattle.desk_replay.specs.declared.fault.ReplayFault.TheVariants as replay_fault;
 
 use crate::fault::ReplayFault;
-use crate::progress::{Asking, Progress};
+use crate::progress::{Progress, UnansweredRequest};
 use crate::terms::{begin_journal, enrol, limit_cells, limit_spans, permit};
 use desk_record::{Entry, Kind};
 use desk_run::Desk;
@@ -39,7 +39,7 @@ pub(crate) fn play_entry<S: PlanStore>(
     entry: Entry,
 ) -> Result<(), ReplayFault>
     ensures steps { IsHonest (S.doubt desk.new.store) → StepsAt S.content result
-        (λ s. taken s (entry_shown entry)) (course desk.old desk.new) (course progress.old progress.new) }
+        (λ s. taken s (entry_parts entry)) (course desk.old desk.new) (course progress.old progress.new) }
     ensures remembered { Remembers S.doubt S.faults S.is_shielded desk.old.store desk.new.store }
 {
     let Entry {
@@ -67,7 +67,7 @@ fn play_entry_after_header<S: PlanStore>(
     bytes: Vec<u8>,
 ) -> Result<(), ReplayFault>
     ensures steps { IsHonest (S.doubt desk.new.store) → StepsAt S.content result
-        (λ s. spec.taken_within kind s number bytes.items) (course desk.old desk.new)
+        (λ s. spec.outcome_after_header kind s number bytes.items) (course desk.old desk.new)
         (course progress.old progress.new) }
     ensures remembered { Remembers S.doubt S.faults S.is_shielded desk.old.store desk.new.store }
 {
@@ -116,7 +116,7 @@ fn replay_request<S: PlanStore>(
     let had_changed = has_changed(&progress.asking);
     progress.changes = count_change(had_changed, answer.made_change, progress.changes);
     let (_, request) = sent;
-    progress.asking = Some(Asking {
+    progress.asking = Some(UnansweredRequest {
         second,
         request,
         answer: answer.bytes,
@@ -128,7 +128,7 @@ fn replay_request<S: PlanStore>(
 }
 
 // Whether the request `asking`, if there is one, changed the database so far.
-fn has_changed(asking: &Option<Asking>) -> bool
+fn has_changed(asking: &Option<UnansweredRequest>) -> bool
     ensures { result ≡ spec.has_changed (asking_in asking.now) }
 {
     match asking {
@@ -153,7 +153,7 @@ fn count_change(before: bool, now: bool, changes: u64) -> u64
 // if it is new. `NoRecord` if another request is still unanswered, `OutOfMemory` if memory runs out.
 fn first_answer_if_repeated(
     alloc: Global,
-    asking: &Option<Asking>,
+    asking: &Option<UnansweredRequest>,
     second: u64,
     request: &[u8],
 ) -> Result<Option<Vec<u8>>, ReplayFault>
@@ -192,7 +192,7 @@ pub fn answer_one<S: PlanStore>(
         ≡ world_after (world_of S.content desk.old) sent.now.0.second (asked_in sent.now.1.items)) }
     ensures err { IsHonest (S.doubt desk.new.store) → OnErr result
         (world_of S.content desk.new ≡ world_of S.content desk.old) }
-    ensures fault { IfErr result IsOwn }
+    ensures fault { IfErr result IsDeskFault }
     ensures kept { OnOk result (StaysSettled S.PlanStore desk.old desk.new) }
     ensures cause { IfErr result (λ f. f ≡ replay_fault.Store
         → HasRisen (S.faults desk.old.store) (S.faults desk.new.store)) }
@@ -216,7 +216,7 @@ fn answer_in_full<S: PlanStore>(
     ensures state { IsHonest (S.doubt desk.new.store) → IfOk result (λ _. world_of S.content desk.new
         ≡ world_after (world_of S.content desk.old) sent.now.0.second (asked_in sent.now.1.items)) }
     ensures err { OnErr result (world_of S.content desk.new ≡ world_of S.content desk.old) }
-    ensures fault { IfErr result IsOwn }
+    ensures fault { IfErr result IsDeskFault }
     ensures kept { OnOk result (StaysSettled S.PlanStore desk.old desk.new) }
     ensures cause { IfErr result (λ f. f ≡ replay_fault.Store
         → HasRisen (S.faults desk.old.store) (S.faults desk.new.store)) }
@@ -232,10 +232,10 @@ fn answer_in_full<S: PlanStore>(
 
 // Compares the recorded `answer` with the desk's. If the recorded one is a 500, another answer is accepted,
 // but the request stays unanswered: the next file has to repeat it. `NoRecord` if no answer may come here.
-#[tactic(auto, unfolding(crate::specs::Replaying::taken_answer))]
+#[tactic(auto, unfolding(crate::specs::Replaying::answer_outcome))]
 fn compare_answer(progress: &mut Progress, second: u64, answer: &[u8]) -> Result<(), ReplayFault>
     ensures { (w : DeskWorld)
-        → GivesOutcome result (taken_answer (progress_state w progress.old) second answer.now)
+        → GivesOutcome result (answer_outcome (progress_state w progress.old) second answer.now)
         (progress_state w progress.old) (progress_state w progress.new) }
 {
     let Some(asking) = &progress.asking else {
@@ -263,8 +263,8 @@ pub fn is_500(answer: &[u8]) -> bool
 }
 
 // Whether `answer` is the desk's answer to the request `asking`, now or when it was carried out first.
-fn is_expected(asking: &Asking, answer: &[u8]) -> bool
-    ensures { result ≡ spec.is_alike (asking_shown asking.now) answer.now }
+fn is_expected(asking: &UnansweredRequest, answer: &[u8]) -> bool
+    ensures { result ≡ spec.is_expected_answer (asking_shown asking.now) answer.now }
 {
     answer == asking.answer.as_slice() || is_first_answer(&asking.before, answer)
 }

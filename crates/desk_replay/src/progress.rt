@@ -10,7 +10,7 @@ use std::alloc::Global;
 
 /// A request that was carried out, and whose recorded answer is still to come.
 #[derive(Debug, Drop)]
-pub struct Asking {
+pub struct UnansweredRequest {
     /// The Unix second of the request.
     pub second: u64,
     /// The bytes of the request.
@@ -36,7 +36,7 @@ pub struct Progress {
     /// The settings that it has so far.
     pub terms: Terms,
     /// The request that has no recorded answer yet, if there is one.
-    pub asking: Option<Asking>,
+    pub asking: Option<UnansweredRequest>,
     /// How many requests were replayed; a repeated one counts once.
     pub requests: u64,
     /// How many of them changed the database.

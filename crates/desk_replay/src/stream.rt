@@ -3,7 +3,7 @@
 ghost use Rattle.std.specs.Prelude.{◌≡◌};
 ghost use Rattle.desk_store.specs.StoreFaults.{IsHonest};
 ghost use Rattle.desk_store.specs.StoreFrames.{Remembers};
-ghost use Rattle.desk_record.specs.Reading.{entry_shown};
+ghost use Rattle.desk_record.specs.Reading.{entry_parts};
 ghost use Rattle.desk_record.specs.Record.{entry};
 ghost use Rattle.desk_run.specs.DeskWorld.{world_of};
 ghost use Rattle.desk_wire.specs.Passage.{course};
@@ -111,7 +111,7 @@ fn replay_next<S: PlanStore, R: Read>(
 
 // The length of the entry `one` in the journal, in bytes; at most `u64::MAX`.
 fn entry_size(one: &Entry) -> u64
-    ensures { result ≡ spec.size_of (entry (entry_shown one.now)) }
+    ensures { result ≡ spec.size_of (entry (entry_parts one.now)) }
 {
     lengths();
     (one.bytes.len() as u64).saturating_add(ENTRY_OVERHEAD)
@@ -119,7 +119,7 @@ fn entry_size(one: &Entry) -> u64
 
 // Whether `entry` is a request whose Unix second is greater than `until`; false if `until` isn't given.
 fn is_after_until(until: Option<u64>, entry: &Entry) -> bool
-    ensures { result ≡ spec.is_too_late until entry.now.kind entry.now.number }
+    ensures { result ≡ spec.is_request_after until entry.now.kind entry.now.number }
 {
     match until {
         Some(last) => entry.kind == Kind::Request && entry.number > last,

@@ -4,7 +4,7 @@ ghost use Rattle.std.specs.Prelude.{◌≡◌};
 ghost use Rattle.desk_store.specs.StoreFaults.{IsHonest};
 ghost use Rattle.desk_store.specs.StoreFrames.{Remembers};
 ghost use Rattle.desk_wire.specs.Passage.{course};
-ghost use Rattle.desk_replay.specs.Replaying.{StepsAt, begun, celled, listed, permitted, spanned};
+ghost use Rattle.desk_replay.specs.Replaying.{StepsAt, begun, cell_limit_outcome, listed, permitted, span_limit_outcome};
 
 use crate::fault::ReplayFault;
 use crate::progress::{Progress, may_follow};
@@ -77,13 +77,13 @@ pub(crate) fn permit<S: PlanStore>(
 }
 
 /// Limits the spans of an operator's live plans to `spans`. `NoRecord` if that is not from 1 to `MAX_SPANS`.
-#[tactic(auto, unfolding(crate::specs::Replaying::spanned))]
+#[tactic(auto, unfolding(crate::specs::Replaying::span_limit_outcome))]
 pub(crate) fn limit_spans<S: PlanStore>(
     desk: &mut Desk<S>,
     progress: &mut Progress,
     spans: u64,
 ) -> Result<(), ReplayFault>
-    ensures steps { StepsAt S.content result (λ s. spanned s spans) (course desk.old desk.new)
+    ensures steps { StepsAt S.content result (λ s. span_limit_outcome s spans) (course desk.old desk.new)
         (course progress.old progress.new) }
     ensures store { desk.new.store ≡ desk.old.store }
 {
@@ -97,13 +97,13 @@ pub(crate) fn limit_spans<S: PlanStore>(
 
 /// Limits the cells of all plans of an operator to `cells`. `NoRecord` if that is not from 1 to
 /// `MAX_TOTAL_CELLS`.
-#[tactic(auto, unfolding(crate::specs::Replaying::celled))]
+#[tactic(auto, unfolding(crate::specs::Replaying::cell_limit_outcome))]
 pub(crate) fn limit_cells<S: PlanStore>(
     desk: &mut Desk<S>,
     progress: &mut Progress,
     cells: u64,
 ) -> Result<(), ReplayFault>
-    ensures steps { StepsAt S.content result (λ s. celled s cells) (course desk.old desk.new)
+    ensures steps { StepsAt S.content result (λ s. cell_limit_outcome s cells) (course desk.old desk.new)
         (course progress.old progress.new) }
     ensures store { desk.new.store ≡ desk.old.store }
 {

@@ -7,8 +7,8 @@ use Rattle.desk_rules.specs.declared.permission.PermitFault.{PermitFault}
 use Rattle.desk_rules.specs.declared.permission.PermitFault.TheVariants as fault
 
 -- each is a priority that a plan may have
-abbrev pub are_priorities : List ℕ → Bool
-are_priorities priorities = list_all (λ p. nat_le p max_priority) priorities
+abbrev pub are_in_range : List ℕ → Bool
+are_in_range priorities = list_all (λ p. nat_le p max_priority) priorities
 
 -- each is less than the next
 abbrev pub are_ascending : List ℕ → Bool
@@ -20,7 +20,7 @@ are_ascending (p ∷ q ∷ rest) = nat_lt p q && are_ascending (q ∷ rest)
 abbrev pub permitted_in : List ℕ → Result (List ℕ) PermitFault
 permitted_in priorities =
     cond (nat_lt max_permitted (length priorities)) (Err fault.TooMany)
-    (cond (not (are_priorities priorities)) (Err fault.Range)
+    (cond (not (are_in_range priorities)) (Err fault.Range)
     (cond (not (are_ascending priorities)) (Err fault.Order) (Ok priorities)))
 
 -- whether plans of a priority may share points

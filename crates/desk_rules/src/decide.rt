@@ -154,7 +154,7 @@ fn note_for(
             if any_ended(call.area.volumes(), moment) {
                 return Some(Note::Ended);
             }
-            if any_beyond(call.area.volumes(), moment) {
+            if any_beyond_horizon(call.area.volumes(), moment) {
                 return Some(Note::Horizon);
             }
             if let Some(note) = over_limit(call.priority, stored, standing) {
@@ -232,7 +232,7 @@ fn ends_by(volume: &Volume, moment: i64) -> bool
 }
 
 // Whether a volume starts more than `HORIZON` seconds after `moment`.
-fn starts_beyond(volume: &Volume, moment: i64) -> bool
+fn starts_beyond_horizon(volume: &Volume, moment: i64) -> bool
     ensures { result ≡ int_lt (moment +ℤ pos max_ahead) volume.now.window.start }
 {
     moment < earliest_request(volume)
@@ -248,10 +248,12 @@ fn earliest_request(volume: &Volume) -> i64
 
 // Whether some volume starts more than `HORIZON` seconds after `moment`.
 #[tactic(auto, unfolding(crate::specs::Outcome::is_beyond_horizon))]
-fn any_beyond(volumes: &[Volume], moment: i64) -> bool
+fn any_beyond_horizon(volumes: &[Volume], moment: i64) -> bool
     ensures { result ≡ is_beyond_horizon volumes.now moment }
 {
-    volumes.iter().any(|volume| starts_beyond(volume, moment))
+    volumes
+        .iter()
+        .any(|volume| starts_beyond_horizon(volume, moment))
 }
 
 // The result of a request that is refused for the reason `note`.

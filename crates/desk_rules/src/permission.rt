@@ -38,14 +38,14 @@ pub enum PermitFault {
 impl Model for Permitted {
     ghost use Rattle.std.specs.Prelude.{◌≡◌, ℕ, ◌-◌, ◌≤◌, ◌++◌, List, length, take, replicate, IsTrue};
     ghost use Rattle.desk_rules.specs.Limits.{max_permitted};
-    ghost use Rattle.desk_rules.specs.Permission.{are_priorities};
+    ghost use Rattle.desk_rules.specs.Permission.{are_in_range};
 
     ghost Value = { List ℕ };
 
     ghost view = { λ p. take p.count p.priorities };
 
     ghost invariant = { λ p. (length p.priorities ≡ max_permitted) × (p.count ≤ max_permitted)
-        × IsTrue (are_priorities (take p.count p.priorities))
+        × IsTrue (are_in_range (take p.count p.priorities))
         × (p.priorities ≡ take p.count p.priorities ++ replicate (max_permitted - p.count) 0) };
 
     ghost inverse = { λ permitted. record {
@@ -76,7 +76,7 @@ impl Permitted {
         if priorities.len() > MAX_PERMITTED {
             return Err(PermitFault::TooMany);
         }
-        if !are_priorities(priorities) {
+        if !are_in_range(priorities) {
             return Err(PermitFault::Range);
         }
         if !are_ascending(priorities) {
@@ -116,8 +116,8 @@ impl fmt::Display for PermitFault {
 impl Error for PermitFault {}
 
 // Whether each of `priorities` is at most 1,000, the greatest that a plan may have.
-fn are_priorities(priorities: &[u32]) -> bool
-    ensures { result ≡ spec.are_priorities priorities.now }
+fn are_in_range(priorities: &[u32]) -> bool
+    ensures { result ≡ spec.are_in_range priorities.now }
 {
     priorities.iter().all(|priority| *priority <= MAX_PRIORITY)
 }

@@ -7,7 +7,7 @@ use Rattle.sqlite.specs.Order.{Row, column}
 use Rattle.sqlite.specs.Term.{eval_all, holds}
 use Rattle.sqlite_tied.specs.Compute.{everything}
 use Rattle.sqlite.specs.Listing.{understood}
-use Rattle.desk_sql.specs.Rows.{differs, is_at_most, is_at_least, is_below, is_above, held_columns, columns}
+use Rattle.desk_sql.specs.Rows.{differs, is_at_most, is_at_least, is_below, is_above, columns_from_first, columns}
 use Rattle.desk_sql.specs.declared.reading.rivals.SpanFilter.{SpanFilter}
 use Rattle.desk_sql.specs.Schema.{desk_schema}
 use Rattle.desk_sql.specs.Queries.{others_params}
@@ -49,7 +49,7 @@ other_spans_sure operator reach low =
 
 pub other_spans_selected : (operator : List ℕ) (reach : SpanFilter) (low : ℤ)
     → Selects rival_spans_text (others_params operator reach low) (0 ∷ [])
-    (λ t. map held_columns (filter (is_others_from operator reach low) t.spans))
+    (λ t. map columns_from_first (filter (is_others_from operator reach low) t.spans))
 other_spans_selected operator reach low =
     let params = others_params operator reach low in
     selects rival_spans_text _ _ _ _ _ rival_spans_is params (other_spans_sure operator reach low)
@@ -57,5 +57,5 @@ other_spans_selected operator reach low =
     (λ e. refl) (λ x y. refl)
     (λ db. one_plan (eval_all rival_spans_query.project) (λ s. params ∷ s ∷ [])
     (λ s. list_all (holds (params ∷ s ∷ [])) rival_spans_query.filter) (columns 10)
-    (is_others_from operator reach low) held_columns (λ s. refl) true
+    (is_others_from operator reach low) columns_from_first (λ s. refl) true
     (λ s. others_test operator reach low s ∙ sym (both_hold _)) (db 11))

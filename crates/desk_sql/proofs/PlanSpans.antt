@@ -10,13 +10,13 @@ use Rattle.sqlite_sql.specs.declared.ops.CompareOp.{CompareOp}
 use Rattle.sqlite_sql.specs.declared.ops.CompareOp.TheVariants.{Eq, Lt, Le, Gt, Ge}
 use Rattle.sqlite_tied.specs.Compute.{everything}
 use Rattle.sqlite.specs.Listing.{understood}
-use Rattle.desk_sql.specs.Rows.{is_at_most, is_at_least, is_below, is_above, is_of, held_columns, columns}
+use Rattle.desk_sql.specs.Rows.{is_at_most, is_at_least, is_below, is_above, is_of, columns_from_first, columns}
 use Rattle.desk_sql.specs.declared.reading.rivals.SpanFilter.{SpanFilter}
 use Rattle.desk_sql.specs.Schema.{desk_schema}
 use Rattle.desk_sql.specs.Queries.{plan_params}
 use Rattle.desk_sql.specs.Refusals.{IsSureGiven}
 use Rattle.desk_sql.specs.Statements.{Selects}
-use Rattle.desk_sql.specs.Others.{is_plans}
+use Rattle.desk_sql.specs.Others.{is_plan_span}
 use Rattle.desk_sql.proofs.lemmas.QueryTexts.{IsQuery, query_of}
 use Rattle.desk_sql.proofs.lemmas.Read.{equals_text, le_number, ge_number, lt_number, gt_number}
 use Rattle.desk_sql.proofs.StatementLemmas.{and_last, both_hold, one_plan, selects}
@@ -49,7 +49,7 @@ grouped a b c d e f g h =
 
 plan_test : (operator id : List ℕ) (reach : SpanFilter) (s : Row)
     → list_all (holds (plan_params operator id reach ∷ s ∷ [])) plan_spans_query.filter
-    ≡ is_plans operator id reach (columns 10 s)
+    ≡ is_plan_span operator id reach (columns 10 s)
 plan_test operator id reach s =
     (λ i. le_number (column s 4) reach.last i
     && (ge_number (column s 5) reach.first i
@@ -76,7 +76,7 @@ plan_spans_sure operator id reach =
 
 pub plan_spans_selected : (operator id : List ℕ) (reach : SpanFilter)
     → Selects plan_spans_text (plan_params operator id reach) []
-    (λ t. map held_columns (filter (is_plans operator id reach) t.spans))
+    (λ t. map columns_from_first (filter (is_plan_span operator id reach) t.spans))
 plan_spans_selected operator id reach =
     let params = plan_params operator id reach in
     selects plan_spans_text _ _ _ _ _ plan_spans_is params (plan_spans_sure operator id reach)
@@ -84,5 +84,5 @@ plan_spans_selected operator id reach =
     (λ e. refl) (λ x y. refl)
     (λ db. one_plan (eval_all plan_spans_query.project) (λ s. params ∷ s ∷ [])
     (λ s. list_all (holds (params ∷ s ∷ [])) plan_spans_query.filter) (columns 10)
-    (is_plans operator id reach) held_columns (λ s. refl) true
+    (is_plan_span operator id reach) columns_from_first (λ s. refl) true
     (λ s. plan_test operator id reach s ∙ sym (both_hold _)) (db 11))

@@ -15,7 +15,7 @@ use Rattle.sqlite_value.specs.declared.keys.Key.{Key}
 use Rattle.sqlite.specs.State.{HasCleanDisk, Shown}
 use Rattle.sqlite.specs.Store.{Ghosts}
 use Rattle.sqlite.specs.Held.{Held, state}
-use Rattle.desk_sql.specs.Rows.{IsDesk, is_row_by, is_of, is_wanted, differs, is_at_most, is_at_least, is_below, is_above, held_columns, is_same, joined, has_volume, with_volumes, by_cells, columns, tables_of, Lists}
+use Rattle.desk_sql.specs.Rows.{IsDesk, is_row_by, is_of, is_rival_from, differs, is_at_most, is_at_least, is_below, is_above, columns_from_first, is_same, joined, has_volume, with_volumes, by_cells, columns, tables_of, Lists}
 use Rattle.desk_sql.specs.declared.reading.rivals.SpanFilter.{SpanFilter}
 use Rattle.desk_sql.specs.declared.reading.query.Query.{Query}
 use Rattle.desk_sql.specs.Queries.{params_of, order_of, rows_of, rival_params}
@@ -303,7 +303,7 @@ and_last false b c d e f g h = refl
 
 rival_test : (operator id : List ℕ) (reach : SpanFilter) (low : ℤ) (s : Row)
     → list_all (holds (rival_params operator id reach low ∷ s ∷ [])) rival_spans_query.filter
-    ≡ is_wanted operator id reach low (columns 10 s)
+    ≡ is_rival_from operator id reach low (columns 10 s)
 rival_test operator id reach low s =
     (λ i. ge_number (column s 4) low i && (le_number (column s 4) reach.last i
     && (ge_number (column s 5) reach.first i
@@ -320,7 +320,7 @@ rival_test operator id reach low s =
 
 pub rival_spans_selected : (operator id : List ℕ) (reach : SpanFilter) (low : ℤ)
     → Selects rival_spans_text (rival_params operator id reach low) (0 ∷ [])
-    (λ t. map held_columns (filter (is_wanted operator id reach low) t.spans))
+    (λ t. map columns_from_first (filter (is_rival_from operator id reach low) t.spans))
 rival_spans_selected operator id reach low =
     let params = rival_params operator id reach low in
     selects rival_spans_text _ _ _ _ _ rival_spans_is params (rival_spans_sure operator id reach low)
@@ -328,7 +328,7 @@ rival_spans_selected operator id reach low =
     (λ e. refl) (λ x y. refl)
     (λ db. one_plan (eval_all rival_spans_query.project) (λ s. params ∷ s ∷ [])
     (λ s. list_all (holds (params ∷ s ∷ [])) rival_spans_query.filter) (columns 10)
-    (is_wanted operator id reach low) held_columns (λ s. refl) true
+    (is_rival_from operator id reach low) columns_from_first (λ s. refl) true
     (λ s. rival_test operator id reach low s ∙ sym (both_hold _)) (db 11))
 
 -- ---- the texts of the queries

@@ -9,8 +9,8 @@ use Rattle.desk_sql.specs.declared.reading.whole.WholeTable.{WholeTable}
 use Rattle.desk_sql.specs.declared.reading.whole.WholeTable.TheVariants as whole
 use Rattle.desk_sql.specs.declared.reading.query.Query.{Query}
 use Rattle.desk_sql.specs.declared.reading.query.Query.TheVariants.{PlanOf, VolumesOf, OwnPlans, RivalSpans, OtherSpans, SpansOf}
-use Rattle.desk_sql.specs.Rows.{Tables, is_row_by, is_of, with_volumes, is_wanted, held_columns}
-use Rattle.desk_sql.specs.Others.{is_others_from, is_plans}
+use Rattle.desk_sql.specs.Rows.{Tables, is_row_by, is_of, with_volumes, is_rival_from, columns_from_first}
+use Rattle.desk_sql.specs.Others.{is_others_from, is_plan_span}
 
 -- ---- whole tables
 
@@ -93,8 +93,8 @@ rows_of (PlanOf operator id) t = filter (is_of operator.now id.now) t.plans
 rows_of (VolumesOf operator id) t = filter (is_of operator.now id.now) t.volumes
 rows_of (OwnPlans operator) t = with_volumes (is_row_by operator.now) t
 rows_of (RivalSpans operator id reach low) t =
-    map held_columns (filter (is_wanted operator.now id.now reach low) t.spans)
+    map columns_from_first (filter (is_rival_from operator.now id.now reach low) t.spans)
 rows_of (OtherSpans operator reach low) t =
-    map held_columns (filter (is_others_from operator.now reach low) t.spans)
+    map columns_from_first (filter (is_others_from operator.now reach low) t.spans)
 rows_of (SpansOf operator id reach) t =
-    map held_columns (filter (is_plans operator.now id.now reach) t.spans)
+    map columns_from_first (filter (is_plan_span operator.now id.now reach) t.spans)

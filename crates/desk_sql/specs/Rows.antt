@@ -285,8 +285,8 @@ is_above v n = not (is_null v) && is_gt (value_cmp v (Int n))
 
 -- the filter `reach` selects the span. Its columns are 3 `first`, 4 `last`, 5 `lower`, 6 `upper`, 7 `start`,
 -- 8 `stop` and 9 `priority`
-abbrev pub is_reached : SpanFilter → Row → Bool
-is_reached reach span =
+abbrev pub passes_filter : SpanFilter → Row → Bool
+passes_filter reach span =
     is_at_most (column span 3) reach.last
     && (is_at_least (column span 4) reach.first
     && (is_below (column span 5) reach.upper
@@ -298,16 +298,16 @@ is_reached reach span =
 -- a span of another plan than this one that the filter `reach` selects
 abbrev pub is_rival : List ℕ → List ℕ → SpanFilter → Row → Bool
 is_rival operator id reach span =
-    is_reached reach span
+    passes_filter reach span
     && (differs (column span 0) (Text operator) || differs (column span 1) (Text id))
 
 -- such a span that begins at the leaf position `low` or later
-abbrev pub is_wanted : List ℕ → List ℕ → SpanFilter → ℤ → Row → Bool
-is_wanted operator id reach low span = is_at_least (column span 3) low && is_rival operator id reach span
+abbrev pub is_rival_from : List ℕ → List ℕ → SpanFilter → ℤ → Row → Bool
+is_rival_from operator id reach low span = is_at_least (column span 3) low && is_rival operator id reach span
 
 -- a span's columns from `first` on
-abbrev pub held_columns : Row → Row
-held_columns span = drop 3 span
+abbrev pub columns_from_first : Row → Row
+columns_from_first span = drop 3 span
 
 -- the order of rows by these columns, the first first
 abbrev pub by_cells : List ℕ → Row → Row → Ordering

@@ -8,7 +8,7 @@ use Rattle.volume4d.specs.Volume.{Block, area_has}
 use Rattle.volume4d.specs.Slab.{slab_has, slabs_have}
 use Rattle.volume4d.specs.Bounds.{overlap}
 use Rattle.volume4d.proofs.lemmas.Bounds.{overlapping}
-use Rattle.desk_store.specs.Parts.{AreSlabs, HasNoPoint}
+use Rattle.desk_store.specs.Parts.{AreSlabs, SharesNoPoint}
 
 -- a slab that has a point of one of some others overlaps one of them
 pub overlaps_at : (slab : Slab) (others : List Slab) (x : Point) → slab_has slab x ≡ true
@@ -21,7 +21,7 @@ overlaps_at slab (o ∷ os) x has inside = elim (or_cases (slab_has o x) (slabs_
 
 -- an area has no point of some extents that its bounds don't overlap
 pub no_point : (area : List Block) (slabs : List Slab) (bounds : Slab) (extents : List Slab)
-    → AreSlabs area slabs bounds → list_any (overlap bounds) extents ≡ false → HasNoPoint area extents
+    → AreSlabs area slabs bounds → list_any (overlap bounds) extents ≡ false → SharesNoPoint area extents
 no_point area slabs bounds extents are apart =
     λ x inside. by_test x inside (area_has area x) refl where
       by_test : (x : Point) → slabs_have extents x ≡ true → (b : Bool) → area_has area x ≡ b → b ≡ false

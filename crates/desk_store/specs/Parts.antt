@@ -45,5 +45,5 @@ AreSlabs area slabs bounds = ((x : Point) → slabs_have slabs x ≡ area_has ar
     × HasAll (area_has area) bounds
 
 -- the area shares no point with the extents
-abbrev pub HasNoPoint : List Block → List Slab → Type 0
-HasNoPoint area extents = (x : Point) → slabs_have extents x ≡ true → area_has area x ≡ false
+abbrev pub SharesNoPoint : List Block → List Slab → Type 0
+SharesNoPoint area extents = (x : Point) → slabs_have extents x ≡ true → area_has area x ≡ false

@@ -18,8 +18,8 @@ HaveLevelNear extents helds level = (x : Point) → slabs_have extents x ≡ tru
 
 -- at each point of the extents the greatest priority among the slabs is the greater of that before and the
 -- level
-abbrev pub AddLevel : List Slab → List Held → List Held → (Point → Option ℕ) → Type 0
-AddLevel extents before helds level =
+abbrev pub AddsLevelNear : List Slab → List Held → List Held → (Point → Option ℕ) → Type 0
+AddsLevelNear extents before helds level =
     HaveLevelNear extents helds (λ x. greater (top_held before x) (level x))
 
 -- at each point of the extent the greatest priority among the slabs is the one held there by plans other than

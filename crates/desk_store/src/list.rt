@@ -13,7 +13,7 @@ ghost use Rattle.desk_store.specs.World.{text_cmp, rows_by, cells_beside, count_
 ghost use Rattle.desk_rules.specs.Plan.{row_cells, row_spans};
 ghost use Rattle.desk_store.specs.OwnRows.{other_level, others_top, rival_level, rivals_top};
 ghost use Rattle.desk_store.specs.StoreChange.{changed_by, IsFitting};
-ghost use Rattle.desk_store.specs.Rivals.{HaveLevelNear, AddLevel, AddsLevel};
+ghost use Rattle.desk_store.specs.Rivals.{HaveLevelNear, AddsLevelNear, AddsLevel};
 ghost use Rattle.desk_store.specs.Listing.{filed_of, filed_all, is_one_of, without};
 ghost use Rattle.desk_store.specs.Listing.{ceiling_at, count_at, with_count};
 ghost use Rattle.desk_store.specs.declared.change.Change.TheVariants as change;
@@ -377,7 +377,7 @@ fn push_rival(
     key: &(Operator, PlanId),
     plan: &Plan,
 ) -> Result<(), AllocError>
-    ensures { OnOk result (AddLevel extents.now helds.old.items helds.new.items
+    ensures { OnOk result (AddsLevelNear extents.now helds.old.items helds.new.items
         (λ x. at_least least (rival_level operator.now id.now (filed_of (key.now, plan.now)) x))) }
 {
     if is_own(operator, id, key) {

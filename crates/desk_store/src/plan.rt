@@ -8,8 +8,8 @@ ghost use Rattle.volume4d.specs.Level.{level_where};
 ghost use Rattle.volume4d.specs.SpanCounts.{area_cells, area_spans};
 ghost use Rattle.volume4d.specs.Slab.{slabs_have};
 ghost use Rattle.desk_rules.specs.Plan.{is_live};
-ghost use Rattle.desk_store.specs.Rivals.{AddLevel, AddsLevel};
-ghost use Rattle.desk_store.specs.Parts.{parts_of, row_of, kept_states, closed_parts, HasNoPoint};
+ghost use Rattle.desk_store.specs.Rivals.{AddsLevelNear, AddsLevel};
+ghost use Rattle.desk_store.specs.Parts.{parts_of, row_of, kept_states, closed_parts, SharesNoPoint};
 
 use crate::sizes::Sizes;
 use desk_rules::plan::{PlanRow, States};
@@ -118,7 +118,7 @@ impl Plan {
 
     /// Whether the plan's bounds overlap one of `extents`. If not, no extent shares a point with the plan.
     pub fn may_meet(&self, extents: &[Slab]) -> bool
-        ensures { result ≡ false → HasNoPoint self.now.area extents.now }
+        ensures { result ≡ false → SharesNoPoint self.now.area extents.now }
     {
         overlaps_one(&self.bounds, extents)
     }
@@ -139,7 +139,7 @@ impl Plan {
     ///
     /// `AllocError` if memory runs out.
     pub fn push_near(&self, helds: &mut Vec<Held>, extents: &[Slab]) -> Result<(), AllocError>
-        ensures { OnOk result (AddLevel extents.now helds.old.items helds.new.items
+        ensures { OnOk result (AddsLevelNear extents.now helds.old.items helds.new.items
             (λ x. level_where (area_has self.now.area x) self.now.priority)) }
     {
         push_overlapping(helds, &self.slabs, self.priority, extents)
@@ -177,7 +177,7 @@ fn push_overlapping(
     priority: u32,
     extents: &[Slab],
 ) -> Result<(), AllocError>
-    ensures { OnOk result (AddLevel extents.now helds.old.items helds.new.items
+    ensures { OnOk result (AddsLevelNear extents.now helds.old.items helds.new.items
         (λ x. level_where (slabs_have slabs.now x) priority)) }
 {
     for slab in slabs {

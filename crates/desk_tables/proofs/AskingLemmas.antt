@@ -18,13 +18,13 @@ use Rattle.table_load.proofs.lemmas.Frame.{reads_itself, reads_then}
 
 module _ {S : Type 0} (g : Ghosts S) where
   -- some queries are answered, and nothing was changed
-  pub record IsAsking {Q : Type 0} (old new : HeldWorld S) (asked : Q → Row → Bool) (questions : List Q)
+  pub record IsAsking {Q : Type 0} (old new : HeldWorld S) (asked : Q → Row → Bool) (queries : List Q)
       (helds : List One) : Type 0
     where
       pub same : new.world ≡ old.world
       pub reads : OnlyReads g old.held new.held
-      pub opened : HasCleanDisk (state g new.held) → 0 < length questions → IsTrue (state g old.held).is_open
-      pub taken : HasCleanDisk (state g new.held) → HaveTakenAll asked questions (spans_shown g old) helds
+      pub opened : HasCleanDisk (state g new.held) → 0 < length queries → IsTrue (state g old.held).is_open
+      pub taken : HasCleanDisk (state g new.held) → HaveTakenAll asked queries (spans_shown g old) helds
 
   module _ {Q : Type 0} (asked : Q → Row → Bool) where
     pub asking_begins : (t : HeldWorld S) (helds : List One) → Stands g t.held t.world → helds ≡ []
@@ -56,7 +56,7 @@ module _ {S : Type 0} (g : Ghosts S) where
         taken = λ clean.
             let shown = ap (λ db. (tables_of db.trees).spans)
             (before.reads.kept (was_clean clean) (live clean)).now in
-            subst (λ questions. HaveTakenAll asked questions (spans_shown g old) (helds ++ more))
+            subst (λ queries. HaveTakenAll asked queries (spans_shown g old) (helds ++ more))
             (sym (take_more all i d within))
             (all_taken asked (spans_shown g old) (take i all) (get_or all i d)
             helds more (before.taken (was_clean clean))

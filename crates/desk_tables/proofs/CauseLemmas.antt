@@ -33,7 +33,7 @@ use Rattle.row_codec.specs.RivalRows.{IsNoHeld}
 use Rattle.row_codec.specs.Tables.{AreTables}
 use Rattle.row_codec.specs.declared.values.PlanHead.{PlanHead}
 use Rattle.desk_rules.specs.Limits.{max_plans}
-use Rattle.desk_sql.specs.Rows.{held_columns, tables_of}
+use Rattle.desk_sql.specs.Rows.{columns_from_first, tables_of}
 use Rattle.desk_sql.specs.Taking.{IsTakenInPart}
 use Rattle.std.specs.Result.{IsErrAnd}
 use Rattle.std.proofs.lemmas.List.{length-map}
@@ -203,7 +203,7 @@ pub spans_blamed : {S : Type 0} (g : Ghosts S) (old new : Held S) → old.step_l
     → IsContent w → AreTables (tables_of (state g old).now.trees) w → (r : Result (Unit {0}) Error)
     → IsErrAnd r (λ e. e ≢ SqliteFailure code.OutOfMemory)
     → IfErr r (IsTakenInPart g old new (IsPermutation
-    (map held_columns (filter want (tables_of (state g old).now.trees).spans)))
+    (map columns_from_first (filter want (tables_of (state g old).now.trees).spans)))
     (Or (λ taken row. IsNoHeld row)))
     → HasDiskFailed g old new ⊎ HasTooManySpans (state g old).now
 spans_blamed g old new unlimited want w h t (Ok u) why cut = absurd why
@@ -217,8 +217,8 @@ spans_blamed g old new unlimited want w h t (Err e) why cut =
       | inr (inr (big, rows, is, many)) ↦ inr (omega (
         arith,
         many,
-        length_permutation (map held_columns (filter want tables.spans)) rows is,
-        length-map (filter want tables.spans) held_columns,
+        length_permutation (map columns_from_first (filter want tables.spans)) rows is,
+        length-map (filter want tables.spans) columns_from_first,
         kept_few want tables.spans,
       ))
     ]

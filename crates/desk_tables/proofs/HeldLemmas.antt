@@ -31,7 +31,7 @@ use Rattle.volume4d.specs.Volume.{Block, window_has, block_has, area_has}
 use Rattle.desk_rules.specs.Conflict.{at_least}
 use Rattle.desk_rules.specs.Plan.{is_live, row_holds}
 use Rattle.desk_sql.specs.Rows as sql
-use Rattle.desk_sql.specs.Rows.{Tables, is_at_most, is_at_least, is_below, is_above, differs, held_columns}
+use Rattle.desk_sql.specs.Rows.{Tables, is_at_most, is_at_least, is_below, is_above, differs, columns_from_first}
 use Rattle.desk_store.specs.World.{Filed, World, held, is_by}
 use Rattle.desk_store.specs.OwnRows.{is_own, other_level, others_top, rival_level, rivals_top}
 use Rattle.desk_store.specs.Rivals.{AreRivals, HaveLevel}
@@ -39,7 +39,7 @@ use Rattle.desk_store.proofs.lemmas.Rival.{others_top-cons, others_top-nil, held
 use Rattle.row_codec.specs.Tables.{id_text, row_of_span, AreSpanRowsFrom, ArePlanSpanRows, AreSpanRows, AreTables}
 use Rattle.desk_store.specs.Content.{IsId, IsPlan, IsContent}
 use Rattle.row_codec.specs.declared.span_bounds.SpanBounds.{SpanBounds}
-use Rattle.row_codec.specs.SpanBounds.{AreWhole, Bounds, HasKnownSpan, IsKnown, IsWithinExtent}
+use Rattle.row_codec.specs.SpanBounds.{FindAll, Bounds, HasKnownSpan, IsKnown, IsWithinExtent}
 use Rattle.row_codec.specs.RivalRows.{HaveTaken, HaveTakenAll, IsHeldIn, HasTakenHelds, is_asked, is_asked_if, span_filter_of}
 use Rattle.row_codec.specs.RivalRows.{AreWanted}
 use Rattle.row_codec.proofs.lemmas.SpanBound.{asked_rival, tables_known}
@@ -123,15 +123,15 @@ top_either s t p f (x ∷ xs) =
 
 -- of what queries find, each its own
 pub top_asked : {Q A B : Type 0} (want : Q → A → Bool) (cut : A → B) (p : B → Bool) (f : B → ℕ) (xs : List A)
-    (questions : List Q) → top_by p f (flat_map (λ q. map cut (filter (want q) xs)) questions)
-    ≡ top_by (λ a. list_any (λ q. want q a) questions && p (cut a)) (λ a. f (cut a)) xs
+    (queries : List Q) → top_by p f (flat_map (λ q. map cut (filter (want q) xs)) queries)
+    ≡ top_by (λ a. list_any (λ q. want q a) queries && p (cut a)) (λ a. f (cut a)) xs
 top_asked want cut p f xs [] = top_none (λ a. p (cut a)) (λ a. f (cut a)) xs
-top_asked want cut p f xs (q ∷ questions) =
-    ap (top_by p f) (flat_map-cons (λ q. map cut (filter (want q) xs)) q questions)
+top_asked want cut p f xs (q ∷ queries) =
+    ap (top_by p f) (flat_map-cons (λ q. map cut (filter (want q) xs)) q queries)
     ∙ top_by-append p f (map cut (filter (want q) xs))
-    (flat_map (λ q. map cut (filter (want q) xs)) questions)
-    ∙ (λ i. greater (top_wanted (want q) cut p f xs i) (top_asked want cut p f xs questions i))
-    ∙ top_either (want q) (λ a. list_any (λ q. want q a) questions) (λ a. p (cut a)) (λ a. f (cut a)) xs
+    (flat_map (λ q. map cut (filter (want q) xs)) queries)
+    ∙ (λ i. greater (top_wanted (want q) cut p f xs i) (top_asked want cut p f xs queries i))
+    ∙ top_either (want q) (λ a. list_any (λ q. want q a) queries) (λ a. p (cut a)) (λ a. f (cut a)) xs
 
 -- of elements that pass a test alike
 top_same : {A : Type 0} (P : A → Type 0) (s t p : A → Bool) (f : A → ℕ) → ((a : A) → P a → s a ≡ t a)
@@ -335,7 +335,7 @@ module _ (another : Row → Bool) (stays : Filed → Bool)
     → another (Text p.operator ∷ Text (id_text p.row.id) ∷ r) ≡ stays p)
     (least : ℕ) (e : Slab) (x : Point) (here : IsIn e x) where
   abbrev want : Row → Bool
-  want r = sql.is_reached (span_filter_of e least) r && another r
+  want r = sql.passes_filter (span_filter_of e least) r && another r
 
   abbrev position : ℕ
   position = position_of x.leaf
@@ -345,11 +345,11 @@ module _ (another : Row → Bool) (stays : Filed → Bool)
   counted p = nat_le least p.row.priority && stays p
 
   abbrev passes : Row → Bool
-  passes r = want r && row_has (held_columns r) x
+  passes r = want r && row_has (columns_from_first r) x
 
   -- the greatest priority of the rows that are wanted and hold the point
   abbrev top : List Row → Option ℕ
-  top rows = top_by passes (λ r. row_priority (held_columns r)) rows
+  top rows = top_by passes (λ r. row_priority (columns_from_first r)) rows
 
   regrouped : (l g a t : Bool) → l ≡ true → (((l && g) && a) && t) ≡ (g && (a && t))
   regrouped l g a t h = ap (λ u. ((u && g) && a) && t) h ∙ and_assoc g a t
@@ -383,7 +383,7 @@ module _ (another : Row → Bool) (stays : Filed → Bool)
       (counted p && (spans_have spans position && window_has v.window x)) p.row.priority
   on_spans p n v [] hp = no_level (counted p) p.row.priority
   on_spans p n v (s ∷ spans) hp =
-      top_by-cons passes (λ r. row_priority (held_columns r)) (row_of_span p n v s)
+      top_by-cons passes (λ r. row_priority (columns_from_first r)) (row_of_span p n v s)
       (map (row_of_span p n v) spans)
       ∙ (λ i. greater (level_where (span_passes p n v s hp i) p.row.priority)
       (on_spans p n v spans hp i))
@@ -405,7 +405,7 @@ module _ (another : Row → Bool) (stays : Filed → Bool)
       → AreSpanRowsFrom p n vs rows → top rows ≡ level_where (counted p && area_has vs x) p.row.priority
   on_area p n [] rows hp are = ap top are ∙ no_level (counted p) p.row.priority
   on_area p n (v ∷ vs) rows hp (spans, rest, ranges, are, more) =
-      ap top are ∙ top_by-append passes (λ r. row_priority (held_columns r))
+      ap top are ∙ top_by-append passes (λ r. row_priority (columns_from_first r))
       (map (row_of_span p n v) spans) rest
       ∙ (λ i. greater (on_block p n v spans hp ranges i) (on_area p (n + 1) vs rest hp more i))
       ∙ either_level _ _ p.row.priority
@@ -434,31 +434,31 @@ module _ (another : Row → Bool) (stays : Filed → Bool)
         ≡ at_least least (tops ps)
     on_plans [] rows h are = ap top are ∙ sym (ap (at_least least) of_none)
     on_plans (p ∷ ps) rows h (front, rest, are, mine, more) =
-        ap top are ∙ top_by-append passes (λ r. row_priority (held_columns r)) front rest
+        ap top are ∙ top_by-append passes (λ r. row_priority (columns_from_first r)) front rest
         ∙ (λ i. greater ((on_plan p front h.0 mine ∙ ap (at_least least) (sym (level_is p))) i)
         (on_plans ps rest h.1 more i))
         ∙ sym (ap (at_least least) (of_more p ps) ∙ at_least_greater least (level p) (tops ps))
 
     -- the slabs of the rows that are asked for hold at the point what the plans hold there
-    at_point : (tables : Tables) (w : World) (span_bounds : SpanBounds) (questions : List Span)
+    at_point : (tables : Tables) (w : World) (span_bounds : SpanBounds) (queries : List Span)
         (helds : List Held)
-        → IsContent w → AreTables tables w → Bounds span_bounds w → AreWhole e (IsKnown span_bounds) questions
-        → AllByRecursion (IsWithinExtent e) questions
-        → HaveTakenAll (is_asked_if another least e) questions tables.spans helds
+        → IsContent w → AreTables tables w → Bounds span_bounds w → FindAll e (IsKnown span_bounds) queries
+        → AllByRecursion (IsWithinExtent e) queries
+        → HaveTakenAll (is_asked_if another least e) queries tables.spans helds
         → top_held helds x ≡ at_least least (tops w.plans)
-    at_point tables w span_bounds questions helds h t bounds whole within (rows, alike, taken) =
+    at_point tables w span_bounds queries helds h t bounds whole within (rows, alike, taken) =
         let (all, are, moved) = t.spans in
         taken_top rows helds x taken
-        ∙ sym (top_permuted (λ r. row_has r x) row_priority (flat_map (λ question.
-        map held_columns (filter (is_asked_if another least e question) tables.spans)) questions) rows alike)
-        ∙ top_asked (is_asked_if another least e) held_columns (λ r. row_has r x) row_priority tables.spans
-        questions
+        ∙ sym (top_permuted (λ r. row_has r x) row_priority (flat_map (λ query.
+        map columns_from_first (filter (is_asked_if another least e query) tables.spans)) queries) rows alike)
+        ∙ top_asked (is_asked_if another least e) columns_from_first (λ r. row_has r x) row_priority tables.spans
+        queries
         ∙ top_same (HasKnownSpan span_bounds)
-        (λ r. list_any (λ question. is_asked_if another least e question r) questions)
-        want (λ r. row_has (held_columns r) x) (λ r. row_priority (held_columns r))
-        (asked_rival another least e span_bounds questions whole within) tables.spans
+        (λ r. list_any (λ query. is_asked_if another least e query r) queries)
+        want (λ r. row_has (columns_from_first r) x) (λ r. row_priority (columns_from_first r))
+        (asked_rival another least e span_bounds queries whole within) tables.spans
         (tables_known span_bounds tables w t bounds.known)
-        ∙ sym (top_permuted passes (λ r. row_priority (held_columns r)) all tables.spans moved)
+        ∙ sym (top_permuted passes (λ r. row_priority (columns_from_first r)) all tables.spans moved)
         ∙ on_plans w.plans all h.rows are
 
 -- the slabs of the rows that are asked for are those of the plan's rivals
@@ -477,17 +477,17 @@ level_of_rival o id x p = refl
 
 are_rivals : (tables : Tables) (w : World) (o id : List ℕ) (least : ℕ) (extent : Slab)
     (span_bounds : SpanBounds)
-    (questions : List Span) (helds : List Held) → IsId id → IsContent w → AreTables tables w
-    → Bounds span_bounds w → AreWhole extent (IsKnown span_bounds) questions
-    → AllByRecursion (IsWithinExtent extent) questions
-    → HaveTakenAll (is_asked (record { operator = o; id = Some id; least = least }) extent) questions
+    (queries : List Span) (helds : List Held) → IsId id → IsContent w → AreTables tables w
+    → Bounds span_bounds w → FindAll extent (IsKnown span_bounds) queries
+    → AllByRecursion (IsWithinExtent extent) queries
+    → HaveTakenAll (is_asked (record { operator = o; id = Some id; least = least }) extent) queries
     tables.spans helds
     → AreRivals w o id least extent helds
-are_rivals tables w o id least extent span_bounds questions helds hi h t bounds whole within taken =
+are_rivals tables w o id least extent span_bounds queries helds hi h t bounds whole within taken =
     λ x inside. at_point (not_of_plan o id) (λ p. not (is_own o id p)) (another_plan o id hi) least extent x
     (is_in extent x inside) (λ p. rival_level o id p x) (λ ps. rivals_top o id ps x)
     (level_of_rival o id x) (rivals_top-nil o id x) (λ p ps. rivals_top-cons o id p ps x) tables w span_bounds
-    questions helds h t bounds whole within taken
+    queries helds h t bounds whole within taken
     ∙ ap (at_least least) (held_by_rivals o id w x)
 
 -- and where the operator's own are left out, those that others hold
@@ -511,30 +511,30 @@ any_level None = refl
 any_level (Some n) = ap (λ b. cond b (Some n) None) (none_below n)
 
 are_others : (tables : Tables) (w : World) (o : List ℕ) (least : ℕ) (extent : Slab)
-    (span_bounds : SpanBounds) (questions : List Span) (helds : List Held) → IsContent w → AreTables tables w
-    → Bounds span_bounds w → AreWhole extent (IsKnown span_bounds) questions
-    → AllByRecursion (IsWithinExtent extent) questions
-    → HaveTakenAll (is_asked (record { operator = o; id = None; least = least }) extent) questions
+    (span_bounds : SpanBounds) (queries : List Span) (helds : List Held) → IsContent w → AreTables tables w
+    → Bounds span_bounds w → FindAll extent (IsKnown span_bounds) queries
+    → AllByRecursion (IsWithinExtent extent) queries
+    → HaveTakenAll (is_asked (record { operator = o; id = None; least = least }) extent) queries
     tables.spans helds
     → HaveLevel extent helds (λ x. at_least least (held w o x))
-are_others tables w o least extent span_bounds questions helds h t bounds whole within taken = λ x inside.
+are_others tables w o least extent span_bounds queries helds h t bounds whole within taken = λ x inside.
     at_point (not_by o) (λ p. not (is_by o p)) (by_another o) least extent x
     (is_in extent x inside) (λ p. other_level o p x) (λ ps. others_top o ps x)
     (level_of_other o x) (others_top-nil o x) (λ p ps. others_top-cons o p ps x) tables w span_bounds
-    questions helds h t bounds whole within taken
+    queries helds h t bounds whole within taken
     ∙ ap (at_least least) (held_by_others o w x)
 
 -- the slabs of the rows that are asked for are those that are wanted
 pub are_wanted : (tables : Tables) (w : World) (o : List ℕ) (id : Option (List ℕ)) (least : ℕ)
-    (extent : Slab) (span_bounds : SpanBounds) (questions : List Span) (helds : List Held) → IfSome id IsId
+    (extent : Slab) (span_bounds : SpanBounds) (queries : List Span) (helds : List Held) → IfSome id IsId
     → IsContent w → AreTables tables w → Bounds span_bounds w
-    → AreWhole extent (IsKnown span_bounds) questions → AllByRecursion (IsWithinExtent extent) questions
-    → HaveTakenAll (is_asked (record { operator = o; id = id; least = least }) extent) questions tables.spans
+    → FindAll extent (IsKnown span_bounds) queries → AllByRecursion (IsWithinExtent extent) queries
+    → HaveTakenAll (is_asked (record { operator = o; id = id; least = least }) extent) queries tables.spans
     helds → AreWanted w (record { operator = o; id = id; least = least }) extent helds
-are_wanted tables w o (Some id) least extent span_bounds questions helds hi h t bounds whole within taken =
-    are_rivals tables w o id least extent span_bounds questions helds hi h t bounds whole within taken
-are_wanted tables w o None least extent span_bounds questions helds hi h t bounds whole within taken =
-    are_others tables w o least extent span_bounds questions helds h t bounds whole within taken
+are_wanted tables w o (Some id) least extent span_bounds queries helds hi h t bounds whole within taken =
+    are_rivals tables w o id least extent span_bounds queries helds hi h t bounds whole within taken
+are_wanted tables w o None least extent span_bounds queries helds hi h t bounds whole within taken =
+    are_others tables w o least extent span_bounds queries helds h t bounds whole within taken
 
 -- ---- one query after the other
 
@@ -547,17 +547,17 @@ taken_both (g ∷ helds) more (r ∷ rows) others h k = (h.0, taken_both helds m
 
 module _ {Q : Type 0} (asked : Q → Row → Bool) (spans : List Row) where
   abbrev found : Q → List Row
-  found question = map held_columns (filter (asked question) spans)
+  found query = map columns_from_first (filter (asked query) spans)
 
-  pub all_taken : (questions : List Q) (question : Q) (helds more : List Held)
-      → HaveTakenAll asked questions spans helds → HaveTaken (asked question) spans more
-      → HaveTakenAll asked (questions ++ question ∷ []) spans (helds ++ more)
-  all_taken questions question helds more (rows, same, taken) (others, also, last) = (
+  pub all_taken : (queries : List Q) (query : Q) (helds more : List Held)
+      → HaveTakenAll asked queries spans helds → HaveTaken (asked query) spans more
+      → HaveTakenAll asked (queries ++ query ∷ []) spans (helds ++ more)
+  all_taken queries query helds more (rows, same, taken) (others, also, last) = (
     rows ++ others,
     subst (λ xs. IsPermutation xs (rows ++ others))
-        (sym (flat_map-append found questions (question ∷ [])
-        ∙ ap (λ xs. flat_map found questions ++ xs) (flat_map-cons found question []
-        ∙ append-nil (found question))))
-        (IsPermutation-append (flat_map found questions) rows (found question) others same also),
+        (sym (flat_map-append found queries (query ∷ [])
+        ∙ ap (λ xs. flat_map found queries ++ xs) (flat_map-cons found query []
+        ∙ append-nil (found query))))
+        (IsPermutation-append (flat_map found queries) rows (found query) others same also),
     taken_both helds more rows others taken last,
   )

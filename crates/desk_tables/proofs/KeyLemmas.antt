@@ -17,7 +17,7 @@ use Rattle.volume4d.specs.Slab.{slab_has, top_held}
 use Rattle.desk_rules.specs.Conflict.{at_least}
 use Rattle.desk_sql.specs.Frames.{OnlyReads}
 use Rattle.desk_sql.specs.Rows as sql
-use Rattle.desk_sql.specs.Rows.{Tables, held_columns, tables_of}
+use Rattle.desk_sql.specs.Rows.{Tables, columns_from_first, tables_of}
 use Rattle.desk_store.specs.World.{Filed, World}
 use Rattle.desk_store.specs.Content.{IsContent, IsId, IsPlan}
 use Rattle.desk_store.specs.Rivals.{HaveLevel}
@@ -64,13 +64,13 @@ module _ (keys : List PlanKey) (least : ℕ) (e : Slab) where
       let (all, are, moved) = t.spans in
       taken_top rows helds x taken
       ∙ sym (top_permuted (λ r. row_has r x) row_priority (flat_map (λ k.
-      map held_columns (filter (is_asked_of_plan least e k) tables.spans)) keys) rows alike)
-      ∙ top_asked (is_asked_of_plan least e) held_columns (λ r. row_has r x) row_priority tables.spans keys
-      ∙ (λ i. top_by (λ r. each_reached (sql.is_reached (span_filter_of e least) r)
-      (λ k. sql.is_of k.operator (id_text k.id) r) keys i && row_has (held_columns r) x)
-      (λ r. row_priority (held_columns r)) tables.spans)
-      ∙ sym (top_permuted (λ r. (sql.is_reached (span_filter_of e least) r && of_one keys r)
-      && row_has (held_columns r) x) (λ r. row_priority (held_columns r)) all tables.spans moved)
+      map columns_from_first (filter (is_asked_of_plan least e k) tables.spans)) keys) rows alike)
+      ∙ top_asked (is_asked_of_plan least e) columns_from_first (λ r. row_has r x) row_priority tables.spans keys
+      ∙ (λ i. top_by (λ r. each_reached (sql.passes_filter (span_filter_of e least) r)
+      (λ k. sql.is_of k.operator (id_text k.id) r) keys i && row_has (columns_from_first r) x)
+      (λ r. row_priority (columns_from_first r)) tables.spans)
+      ∙ sym (top_permuted (λ r. (sql.passes_filter (span_filter_of e least) r && of_one keys r)
+      && row_has (columns_from_first r) x) (λ r. row_priority (columns_from_first r)) all tables.spans moved)
       ∙ on_plans (of_one keys) (is_listed keys) (is_one keys hi) least e x (is_in e x inside)
       (λ p. listed_level keys p x) (λ ps. listed_top keys ps x) (λ p. refl) refl (λ p ps. refl)
       w.plans all h.rows are

@@ -12,7 +12,7 @@ use Rattle.desk_sql.specs.Schema.{blank_schema}
 use Rattle.table_load.specs.Files.{Finds}
 use Rattle.desk_tables.specs.Store.{Shown}
 use Rattle.table_load.specs.OpeningSteps.{IsAdopted}
-use Rattle.table_load.specs.HeldContent.{AreHoldingsOf}
+use Rattle.table_load.specs.HeldContent.{AreStatsOf}
 use Rattle.desk_tables.specs.Copying.{AreNotCopied, IsMadeIn, IsUnmadeOf}
 use Rattle.desk_tables.specs.Copying.{LooksIn}
 use Rattle.desk_tables.specs.declared.opening.files.CopyFault.{CopyFault}
@@ -41,11 +41,11 @@ module _ {D : Type 0} {g : disk.Ghosts D} (image : Image) where
 pub copied_looks : {D E F : Type 0} {g : disk.Ghosts D} {k : disk.Ghosts E} (image : Image)
     (r : Result (Held (FileStore D g) × (Shown (FileStore E k) × DbStats)) F) (left : Held (FileStore D g))
     (w : World) (old : Bool) → IfOk r (λ x. x.0 ≡ left) → IfOk r (λ x. x.1.0.world ≡ w)
-    → IfOk r (λ x. AreHoldingsOf x.1.1 w) → IfOk r (λ x. x.1.1.is_old ≡ old) → LooksIn image left old w
-    → IfOk r (λ x. AreHoldingsOf x.1.1 x.1.0.world × LooksIn image x.0 x.1.1.is_old x.1.0.world)
+    → IfOk r (λ x. AreStatsOf x.1.1 w) → IfOk r (λ x. x.1.1.is_old ≡ old) → LooksIn image left old w
+    → IfOk r (λ x. AreStatsOf x.1.1 x.1.0.world × LooksIn image x.0 x.1.1.is_old x.1.0.world)
 copied_looks image (Err e) left w old same world counted schema looks = tt
 copied_looks {g = g} image (Ok x) left w old same world counted schema looks = (
-  subst (AreHoldingsOf x.1.1) (sym world) counted,
+  subst (AreStatsOf x.1.1) (sym world) counted,
   subst (λ h. LooksIn {g = g} image h x.1.1.is_old x.1.0.world) (sym same)
       (subst (λ b. LooksIn {g = g} image left b x.1.0.world) (sym schema)
       (subst (LooksIn {g = g} image left old) (sym world) looks)),

@@ -10,7 +10,7 @@ use Rattle.volume4d.specs.Volume.{Block}
 use Rattle.volume4d.specs.declared.slab.Held.{Held}
 use Rattle.desk_rules.specs.Limits.{max_priority}
 use Rattle.desk_rules.specs.Plan.{is_live}
-use Rattle.desk_sql.specs.Rows.{Tables, held_columns}
+use Rattle.desk_sql.specs.Rows.{Tables, columns_from_first}
 use Rattle.desk_store.specs.World.{Filed, World}
 use Rattle.desk_store.proofs.lemmas.Order.{all_append, all_filter}
 use Rattle.desk_store.specs.Content.{IsValidVolume, IsContent}
@@ -23,7 +23,7 @@ abbrev IsHeldRow : Row → Type 0
 IsHeldRow row = (held : Held) × FitsColumns held × IsHeldIn row held
 
 abbrev IsSpanOfHeld : Row → Type 0
-IsSpanOfHeld row = IsHeldRow (held_columns row)
+IsSpanOfHeld row = IsHeldRow (columns_from_first row)
 
 one_span : (p : Filed) (n : ℕ) (v : Block) (s : Span) → IsValidVolume v → p.row.priority ≤ max_priority
     → IsSpan s → IsSpanOfHeld (row_of_span p n v s)
@@ -89,7 +89,7 @@ on_plans (p ∷ ps) rows h low (front, rest, are, mine, more) =
     (on_plans ps rest h.1 low.1 more))
 
 cut : (rows : List Row) → AllByRecursion IsSpanOfHeld rows
-    → AllByRecursion IsHeldRow (map held_columns rows)
+    → AllByRecursion IsHeldRow (map columns_from_first rows)
 cut [] h = tt
 cut (r ∷ rows) h = (h.0, cut rows h.1)
 
@@ -105,12 +105,12 @@ along P xs ys same h = recursion_from_All P ys (All-permutation P xs ys same (Al
 -- each row that is shown of some spans of a content is a slab's
 pub spans_read : (tables : Tables) (w : World) (want : Row → Bool) (taken left : List Row) (row : Row)
     → IsContent w → AreTables tables w
-    → IsPermutation (map held_columns (filter want tables.spans)) (taken ++ row ∷ left) → ¬ IsNoHeld row
+    → IsPermutation (map columns_from_first (filter want tables.spans)) (taken ++ row ∷ left) → ¬ IsNoHeld row
 spans_read tables w want taken left row h t same none =
     let (all, are, moved) = t.spans in
     let spans = along IsSpanOfHeld all tables.spans moved
     (on_plans w.plans all h.rows h.world.priorities are) in
-    let shown = along IsHeldRow (map held_columns (filter want tables.spans)) (taken ++ row ∷ left) same
+    let shown = along IsHeldRow (map columns_from_first (filter want tables.spans)) (taken ++ row ∷ left) same
     (cut (filter want tables.spans) (all_filter IsSpanOfHeld want tables.spans spans)) in
     let (held, fits, is) = there taken row left shown in
     none held fits is

@@ -61,7 +61,7 @@ pub fn what_is_read_is_an_id()
 {}
 
 /// The rows of tables stand for at most one database state.
-pub fn one_content()
+pub fn one_state()
     ensures { (tables : Tables) (one other : World) → IsContent one → IsContent other
         → AreTables tables one → AreTables tables other → one ≡ other }
 {
@@ -69,13 +69,13 @@ pub fn one_content()
 }
 
 /// If the tables of a state are changed as a change says, they are those of the state after it.
-pub fn changed_rows_are_the_changed_content()
+pub fn changed_rows_are_the_changed_state()
     ensures { (change : Change) (w : World) (old new : Tables) → IsContent w → IsWithinLimits change
         → AreTables old w → ChangesRows change old new → AreTables new (changed_by change w) }
 {}
 
 /// A valid state stays valid after a change that fits it and whose values are within their limits.
-pub fn a_changed_content_is_a_content()
+pub fn a_changed_state_is_valid()
     ensures { (change : Change) (w : World) → IsContent w → IsFitting change w → IsWithinLimits change
         → IsContent (changed_by change w) }
 {}
@@ -113,7 +113,7 @@ pub fn an_operator_put_changes_rows()
 
 /// The state that a start finds in files after a crash is one of the crash states of the connection that
 /// wrote them.
-pub fn a_start_finds_what_may_be_left<D: Disk, E: Disk>()
+pub fn a_start_finds_a_crash_state<D: Disk, E: Disk>()
     ensures { (last : Held (FileStore D D.Disk)) (found : Held (FileStore E E.Disk)) (w : World)
         → IsFoundAfter last found → IsDatabaseOf over_files found w
         → ∥ MayLeave over_files last (Some w) ∥₁ }
@@ -121,7 +121,7 @@ pub fn a_start_finds_what_may_be_left<D: Disk, E: Disk>()
 
 /// If a connection has one crash state alone, as it does once a change is answered, a store that is opened
 /// after a crash begins with that state. The files are refused only if memory runs out or the disk fails.
-pub fn a_store_begins_with_what_was_left<D: Disk, E: Disk>()
+pub fn a_store_begins_with_the_only_crash_state<D: Disk, E: Disk>()
     ensures begins { (last : Held (FileStore D D.Disk)) (new : Held (FileStore E E.Disk))
         (w other : World) → LeavesOnly w (MayLeave over_files last) → BeginsAfter last new other
         → other ≡ w }
@@ -132,7 +132,7 @@ pub fn a_store_begins_with_what_was_left<D: Disk, E: Disk>()
 
 /// If a connection has one crash state alone, this also is the only crash state of a start over its files,
 /// wherever that is cut short and however it ends. So the first start that isn't cut short begins with it.
-pub fn a_start_cut_short_leaves_the_content<D: Disk, E: Disk>()
+pub fn an_interrupted_start_keeps_the_state<D: Disk, E: Disk>()
     ensures opened { (last : Held (FileStore D D.Disk)) (image : Image) (new : Held (FileStore E E.Disk))
         (w : World) → LeavesOnly w (MayLeave over_files last) → IsImageLeft last image
         → IsCutShort IsCompletedAs image new → HasCleanDisk (state over_files new)
@@ -142,12 +142,12 @@ pub fn a_start_cut_short_leaves_the_content<D: Disk, E: Disk>()
         → IsCutShort IsMovedOn image new → HasCleanDisk (state over_files new)
         → LeavesOnly w (MayLeave over_files new) }
 {
-    one_content();
+    one_state();
 }
 
 /// After a start that was cut short anywhere, the next one finds the state that the files had, in either
 /// schema. A store that is opened over it, by a migration too, begins with that state.
-pub fn a_start_after_one_cut_short_finds_the_content<D: Disk, E: Disk>()
+pub fn a_start_after_an_interrupted_one_finds_the_state<D: Disk, E: Disk>()
     ensures found { (image : Image) (w : World) (cut : Held (FileStore D D.Disk))
         (found : Held (FileStore E E.Disk)) → ShowContent D.Disk image w → IsCutShort IsMovedOn image cut
         → HasCleanDisk (state over_files cut) → IsFoundAfter cut found
@@ -162,7 +162,7 @@ pub fn a_start_after_one_cut_short_finds_the_content<D: Disk, E: Disk>()
 
 /// If opening files fails or is cut short before there is a connection, they have the same database as
 /// before. If they had none, they have none, or one of what was found.
-pub fn a_failed_opening_leaves_the_database<D: Disk>()
+pub fn a_failed_opening_keeps_the_database<D: Disk>()
     ensures held { (image next : Image) (it : Leftover D D.Disk) (db : Trees) → HoldsDatabase image db
         → RemainsOf image it next → ∥ HoldsDatabase next db ∥₁ }
     ensures none { (image next : Image) (it : Leftover D D.Disk) → IsNothing image
@@ -182,7 +182,7 @@ pub fn a_start_after_a_failed_opening_finds_the_database<D: Disk, E: Disk, F: Di
 {}
 
 /// Files whose statistics are read, or that are copied, stay as they were, wherever that is cut short.
-pub fn a_look_leaves_the_database<D: Disk>()
+pub fn reading_keeps_the_database<D: Disk>()
     ensures read { (image : Image) (left : Held (FileStore D D.Disk)) (old : Bool) (w : World)
         → LooksIn image left old w → IsCutShort (λ _ _. ⊥) image left }
     ensures unread { (image : Image) (e : OpenFault) (left : Held (FileStore D D.Disk))
@@ -191,7 +191,7 @@ pub fn a_look_leaves_the_database<D: Disk>()
 
 /// If a connection has one crash state alone, it still is the only one after a checkpoint that failed, and a
 /// start over the files that a close returned finds no other.
-pub fn a_close_leaves_the_content<D: Disk, E: Disk>()
+pub fn a_close_keeps_the_state<D: Disk, E: Disk>()
     ensures unclosed { (last : Held (FileStore D D.Disk)) (it : CheckpointError D D.Disk) (w : World)
         → LeavesOnly w (MayLeave over_files last) → IsLeftUnclosed last it
         → LeavesOnly w (MayLeave over_files (record last { store = it.left })) }
@@ -205,7 +205,7 @@ pub fn a_close_leaves_the_content<D: Disk, E: Disk>()
 /// Files of a connection with one crash state alone are never refused as an invalid database or as one of
 /// schema 1. `refused` is what opening them reported; its connection, if it has one, is open and its disk
 /// intact.
-pub fn a_desk_is_not_reported_as_none<D: Disk, E: Disk>(refused: &FilesFault<E>)
+pub fn a_valid_database_is_not_refused<D: Disk, E: Disk>(refused: &FilesFault<E>)
     ensures { (last : Held (FileStore D D.Disk)) (image : Image) (w : World)
         → LeavesOnly w (MayLeave over_files last) → IsImageLeft last image
         → AreRefused image refused.now.fault refused.now.connection
@@ -238,13 +238,13 @@ pub fn a_store_begins_with_the_old_or_the_new<D: Disk, E: Disk>()
 {}
 
 /// The disk of a store in memory always returns what was written.
-pub fn a_store_in_memory_is_honest(store: &SqliteStore<FileStore<Ram>>)
+pub fn a_store_in_memory_is_intact(store: &SqliteStore<FileStore<Ram>>)
     ensures { HasCleanDisk (state over_files store.now.held) }
 {}
 
 /// If each read of a store over files is compared with a digest, the disk returned what was written since
 /// that began; or a read returned other bytes with the same digest of 64 bits.
-pub fn a_shielded_store_is_honest<C: Calls, S: Start>(
+pub fn a_store_that_compares_digests_is_intact<C: Calls, S: Start>(
     store: &SqliteStore<FileStore<Modelled<C, S>>>,
 )
     ensures { (state over_files store.now.held).IsShielded

@@ -16,6 +16,6 @@ pub use operator_index::ListedOperator;
 pub use store::SqliteStore;
 pub use table_load::fault::OpenFault;
 pub use table_load::looking::{DbStats, read_stats};
-pub use table_load::naming::{InvalidPart, Named, first_fault, part_at};
+pub use table_load::naming::{InvalidPart, Named, find_invalid, part_at};
 pub use table_load::path::NotOpened;
 pub use table_load::word::open_word;

@@ -9,7 +9,7 @@ ghost use Rattle.table_load.specs.Standing.{Stands};
 ghost use Rattle.row_codec.specs.Known.{Knows};
 ghost use Rattle.table_load.specs.Leaving.{IsSettledAt};
 
-use crate::laws::one_content;
+use crate::laws::one_state;
 use crate::tables::DeskTables;
 use desk_rules::operator::Operator;
 use desk_rules::plan::{PlanRow, States};
@@ -204,7 +204,7 @@ impl<S: Alter> PlanStore for SqliteStore<S> {
     }
 
     fn apply(&mut self, change: &Change) -> Result<(), StoreFault> {
-        one_content();
+        one_state();
         let fresh = self.known.prepare(self.tables.allocator(), change)?;
         match self.tables.make(&self.known.span_bounds, change) {
             Ok(span_bounds) => {

@@ -4,7 +4,7 @@ ghost use Rattle.std.specs.Prelude.{◌≡◌};
 ghost use Rattle.table_load.specs.Standing.{Stands};
 ghost use Rattle.table_load.specs.Leaving.{IsSettledAt};
 
-use crate::laws::one_content;
+use crate::laws::one_state;
 use desk_sql::laws::committed_and_sound;
 use desk_store::StoreFault;
 use row_codec::kept::GhostState;
@@ -55,7 +55,7 @@ impl<S: Alter> DeskTables<S> {
         ensures left { IsSettledAt S.Store self.now.held self.now.world }
     {
         committed_and_sound(&self.connection);
-        one_content();
+        one_state();
     }
 
     /// Returns the connection, whose rows are those of the state.

@@ -11,7 +11,7 @@ use Rattle.io_ends.specs.declared.serving.Served.TheVariants.{Answered}
 use Rattle.desk_wire.specs.declared.response.ServerError.{ServerError}
 use Rattle.desk_wire.specs.declared.response.ServerError.TheVariants.{OutOfMemory, Store}
 use Rattle.desk_wire.specs.Bytes.{IsServerError}
-use Rattle.desk_wire.specs.FailureCauses.{AppendsLast, HasFailed, HasStoreCause, IsGivenUp, IsLastAnswer}
+use Rattle.desk_wire.specs.FailureCauses.{AppendsLast, HasFailed, HasStoreCause, HasStatus500, IsLastAnswer}
 use Rattle.desk_wire.specs.RefusalTexts.{server_error_text}
 
 cause_of : (why : ServerError) (old new : ℕ) → (Some why ≡ Some Store → HasRisen old new)
@@ -47,9 +47,9 @@ last_said items answers answer = (map items answers, map-append items answers (a
 -- what was served
 pub failed_served : (IsSaid : List ℕ → Type 0) (s : Served) (status : ℕ) (framed : Bool) (old new : ℕ)
     → s ≡ Answered status framed → (status ≡ 500 → HasFailed IsSaid old new)
-    → IsGivenUp s → HasFailed IsSaid old new
+    → HasStatus500 s → HasFailed IsSaid old new
 failed_served IsSaid s status framed old new is failed given =
-    failed (subst IsGivenUp is given)
+    failed (subst HasStatus500 is given)
 
 -- some bytes were written
 abbrev pub Grows : Option (List ℕ) → Option (List ℕ) → Type 0

@@ -12,7 +12,7 @@ use Rattle.request_parser.specs.Messages.{FrontParts, front_in, message_in}
 use Rattle.request_parser.specs.Readings.{Reading, guard, or_met}
 use Rattle.request_parser.specs.WireLimits.{head_room}
 use Rattle.request_parser.specs.declared.wire_fault.WireFault.TheVariants.{BadHead}
-use Rattle.desk_wire.specs.Streams.{IsCut, IsFront, IsRequest, front_read, front_within, request_len, size_said, whole_len, with_body}
+use Rattle.desk_wire.specs.Streams.{IsCut, IsFront, IsRequest, front_parsed, front_within, request_len, size_or_zero, whole_len, with_body}
 
 -- ---- the least number that passes
 
@@ -112,7 +112,7 @@ front_within_is text rest h =
 
 -- the length of a request by its front
 request_by : (text rest : List ℕ) → IsFront text → request_len (text ++ rest)
-    ≡ whole_len (length (text ++ rest)) (length text) (size_said (front_read text))
+    ≡ whole_len (length (text ++ rest)) (length text) (size_or_zero (front_parsed text))
 unfolding request_len
 request_by text rest h = rw (front_within_is text rest h, take-append_seam text rest) refl
 
@@ -124,20 +124,20 @@ whole_cut : (there front size : ℕ) → there < front + size → whole_len ther
 whole_cut there front size short = rw (is_below there (front + size) short) refl
 
 -- a front with its whole body is a request
-pub is_request : (text body : List ℕ) → IsFront text → length body ≡ size_said (front_read text)
+pub is_request : (text body : List ℕ) → IsFront text → length body ≡ size_or_zero (front_parsed text)
     → IsRequest (text ++ body)
 is_request text body h size =
     request_by text body h ∙ whole_fits (length (text ++ body)) (length text)
-    (size_said (front_read text))
+    (size_or_zero (front_parsed text))
     (length-append text body ∙ ap (λ n. length text + n) size)
 
 -- a front with a shorter body is cut
 pub is_cut_body : (text rest : List ℕ) → 0 < length text → IsFront text
-    → length rest < size_said (front_read text) → IsCut (text ++ rest)
+    → length rest < size_or_zero (front_parsed text) → IsCut (text ++ rest)
 is_cut_body text rest some h short = record {
   some = omega (arith, some, length-append text rest);
   cut = request_by text rest h ∙ whole_cut (length (text ++ rest)) (length text)
-      (size_said (front_read text))
+      (size_or_zero (front_parsed text))
       (omega (arith, short, length-append text rest));
 }
 
@@ -155,7 +155,7 @@ is_cut_head text some none fails short =
 
 -- ---- messages
 
-message_made : (r : Reading FrontParts) (body : List ℕ) → length body ≡ size_said r
+message_made : (r : Reading FrontParts) (body : List ℕ) → length body ≡ size_or_zero r
     → or_met r (λ front. guard (not (length body == front.size)) BadHead
     (Ok (record { head = front.head; body = body }))) ≡ with_body r body
 message_made (Ok front) body size = rw (eq_test (length body) front.size size) refl
@@ -165,8 +165,8 @@ message_made (Ok front) body size = rw (eq_test (length body) front.size size) r
 message_made (Err fault) body size = refl
 
 message_by_head : (text body : List ℕ) → IsFront text → ends_head text ≡ true → length body
-    ≡ size_said (front_read text) → message_in (text ++ body) ≡ with_body (front_read text) body
-unfolding message_in front_read
+    ≡ size_or_zero (front_parsed text) → message_in (text ++ body) ≡ with_body (front_parsed text) body
+unfolding message_in front_parsed
 message_by_head text body h ends size =
     rw (
       head_found text body h.none h.within ends,
@@ -176,8 +176,8 @@ message_by_head text body h ends size =
     ) (message_made (front_in text) body (rw ends at size))
 
 message_by_room : (text body : List ℕ) → IsFront text → ends_head text ≡ false → length text ≡ head_room
-    → message_in (text ++ body) ≡ with_body (front_read text) body
-unfolding message_in front_read
+    → message_in (text ++ body) ≡ with_body (front_parsed text) body
+unfolding message_in front_parsed
 message_by_room text body h fails full =
     rw (
       head_missed text body h.none fails (omega (arith, length-append text body, full)),
@@ -187,8 +187,8 @@ message_by_room text body h fails full =
     ) refl
 
 -- the message of a front with its whole body
-pub message_is : (text body : List ℕ) → IsFront text → length body ≡ size_said (front_read text)
-    → message_in (text ++ body) ≡ with_body (front_read text) body
+pub message_is : (text body : List ℕ) → IsFront text → length body ≡ size_or_zero (front_parsed text)
+    → message_in (text ++ body) ≡ with_body (front_parsed text) body
 message_is text body h size =
     elim (fronted text h) [
       | inl ends ↦ message_by_head text body h ends size
@@ -218,7 +218,7 @@ reported_cut old now new text first next end some none fails short =
 -- the stream of a front and a short body
 pub reported_cut_body : (old now : Option (List ℕ)) (text : List ℕ) → Consumes old now text
     → 0 < length text
-    → IsFront text → IfSome now (λ rest. length rest < size_said (front_read text)) → IfSome old IsCut
+    → IsFront text → IfSome now (λ rest. length rest < size_or_zero (front_parsed text)) → IfSome old IsCut
 reported_cut_body None now text c some h short = tt
 reported_cut_body (Some xs) None text c some h short = absurd c
 reported_cut_body (Some xs) (Some rest) text c some h short =
@@ -319,17 +319,17 @@ whole_is there front size n is = by (nat_lt there (front + size)) is
 
 request_more_by : (request rest : List ℕ) (o : Option ℕ) → front_within head_room request ≡ o
     → option_and_then (λ front. whole_len (length request) front
-    (size_said (front_read (take front request)))) o ≡ Some (length request)
+    (size_or_zero (front_parsed (take front request)))) o ≡ Some (length request)
     → request_len (request ++ rest) ≡ Some (length request)
 unfolding request_len
 request_more_by request rest None found is = cc
 request_more_by request rest (Some front) found is =
     let more = front_more head_room request rest front found in
-    let whole = whole_is (length request) front (size_said (front_read (take front request)))
+    let whole = whole_is (length request) front (size_or_zero (front_parsed (take front request)))
     (length request)
     is in
     rw (more.0, take-append-le front request rest more.1)
-    (rw (not_below (length (request ++ rest)) (front + size_said (front_read (take front request)))
+    (rw (not_below (length (request ++ rest)) (front + size_or_zero (front_parsed (take front request)))
     (omega (arith, whole, length-append request rest))) (ap Some whole))
 
 pub request_more : (request rest : List ℕ) → IsRequest request → request_len (request ++ rest)

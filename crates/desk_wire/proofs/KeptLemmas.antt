@@ -24,7 +24,7 @@ use Rattle.io_ends.specs.declared.serving.ServeFault.TheVariants.{Read, Write, C
 use Rattle.io_ends.specs.declared.writing.PartialWrite.{PartialWrite}
 use Rattle.desk_wire.specs.declared.response.ServerError.{ServerError}
 use Rattle.desk_wire.specs.AllAnswers.{Sent, answers_to, world_left}
-use Rattle.desk_wire.specs.Bytes.{IsServerError, status_so, world_after}
+use Rattle.desk_wire.specs.Bytes.{IsServerError, status_or_500, world_after}
 use Rattle.desk_wire.specs.Given.{IsNextIn, answered, reported_in_play}
 use Rattle.desk_wire.specs.RequestsKept.{FindsBy, IsCertain, IsFoundInRequests, IsFoundInStream, IsFoundNow, IsKept, IsLeftBy, IsOldOrNext, IsServedKept}
 use Rattle.desk_wire.specs.Passage.{Passage, passed}
@@ -52,7 +52,7 @@ left_served before now old new moment w reading request taken read crash found m
 
 -- an answer with another status than 500 is no failure of the desk
 pub no_failure : (w : DeskWorld) (moment : ℤ) (reading : Reading Asked) (why : Option ServerError)
-    (status : ℕ) → status ≡ status_so why w moment reading → status ≢ 500 → why ≡ None
+    (status : ℕ) → status ≡ status_or_500 why w moment reading → status ≢ 500 → why ≡ None
 no_failure w moment reading None status is other = refl
 no_failure w moment reading (Some why) status is other = absurd (other is)
 
@@ -97,7 +97,7 @@ module _ (r : Result Served ServeFault) (before now : Option World → Type 0) (
 
 pub unsure_500 : (s : Served) (status : ℕ) (framed : Bool) (w : DeskWorld) (moment : ℤ)
     (reading : Reading Asked) (why : Option ServerError) → s ≡ Answered status framed
-    → status ≡ status_so why w moment reading → IfSome why (λ error. ¬ IsCertain (Ok s))
+    → status ≡ status_or_500 why w moment reading → IfSome why (λ error. ¬ IsCertain (Ok s))
 unsure_500 s status framed w moment reading None is said = tt
 unsure_500 s status framed w moment reading (Some why) is said =
     λ certain. subst (λ z. IsCertain (Ok z)) is certain said

@@ -13,7 +13,7 @@ use Rattle.desk_rules.specs.declared.call.Asked.{Asked}
 use Rattle.desk_run.specs.DeskWorld.{DeskWorld}
 use Rattle.desk_wire.specs.declared.response.ServerError.{ServerError}
 use Rattle.desk_wire.specs.AllAnswers.{Sent, answers_to, world_left}
-use Rattle.desk_wire.specs.Bytes.{IsAnsweredSo, IsDone, IsServerError, status_so, text_for, world_after}
+use Rattle.desk_wire.specs.Bytes.{IsAnsweredSo, IsDone, IsServerError, status_or_500, text_for, world_after}
 use Rattle.desk_wire.specs.Passage.{passed}
 use Rattle.desk_wire.specs.Playing.{ArePlayed, IsBroken, IsWhole, at_moment}
 use Rattle.desk_wire.specs.OneRequest.{IsServed}
@@ -22,7 +22,7 @@ use Rattle.desk_wire.proofs.AllLemmas.{reported_more, left_more}
 -- an answer with another status is what is asked
 pub done_by_status : (w after : DeskWorld) (moment : ℤ) (reading : Reading Asked) (answer : List ℕ)
     (why : Option ServerError) (status : ℕ) → IsAnsweredSo why w moment reading answer after → status
-    ≡ status_so why w moment reading → status ≢ 500 → IsDone w moment reading answer after
+    ≡ status_or_500 why w moment reading → status ≢ 500 → IsDone w moment reading answer after
 done_by_status w after moment reading answer None status h is other = h
 done_by_status w after moment reading answer (Some why) status h is other = absurd (other is)
 

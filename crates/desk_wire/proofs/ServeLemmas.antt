@@ -16,10 +16,10 @@ use Rattle.io_ends.specs.declared.serving.ServeFault.TheVariants.{Read, Write, C
 use Rattle.io_ends.specs.declared.writing.PartialWrite.{PartialWrite}
 use Rattle.io_ends.specs.Writing.{BreaksOff}
 use Rattle.desk_wire.specs.declared.response.ServerError.{ServerError}
-use Rattle.desk_wire.specs.Bytes.{IsAnsweredSo, IsServerError, status_so}
+use Rattle.desk_wire.specs.Bytes.{IsAnsweredSo, IsServerError, status_or_500}
 use Rattle.desk_wire.specs.Passage.{passed}
 use Rattle.desk_wire.specs.OneRequest.{HasServed, IsReplied, IsServed, IsTaken, IsUntouched, Stops}
-use Rattle.desk_wire.specs.Streams.{IsCut, IsFront, front_read, is_framed, size_said, with_body}
+use Rattle.desk_wire.specs.Streams.{IsCut, IsFront, front_parsed, is_framed, size_or_zero, with_body}
 use Rattle.desk_wire.proofs.BytesLemmas.{asked_read}
 use Rattle.desk_wire.proofs.FrontLemmas.{is_request, message_is}
 
@@ -31,11 +31,11 @@ pub record IsReceived (old new : Option (List ℕ)) (text body : List ℕ)
   pub read : request ≡ message_in (text ++ body)
 
 pub received : (old now new : Option (List ℕ)) (text body : List ℕ) (front : Reading FrontParts)
-    (request : Reading MessageParts) → Consumes old now text → IsFront text → front ≡ front_read text
-    → Consumes now new body → length body ≡ size_said front → request ≡ with_body front body
+    (request : Reading MessageParts) → Consumes old now text → IsFront text → front ≡ front_parsed text
+    → Consumes now new body → length body ≡ size_or_zero front → request ≡ with_body front body
     → IsReceived old new text body request
 received old now new text body front request first h is next size made =
-    let said = size ∙ ap size_said is in
+    let said = size ∙ ap size_or_zero is in
     record {
       taken = record {
         whole = is_request text body h said;
@@ -57,10 +57,10 @@ replied H w after moment request answer reading why r reported failed = record {
 
 pub status_as : (H : Type 0) (w : DeskWorld) (moment : ℤ) (request : List ℕ)
     (reading : Reading MessageParts) (why : Option ServerError) (status : ℕ) → reading ≡ message_in request
-    → (H → status ≡ status_so why w moment (or_met reading asked_by)) → H
-    → status ≡ status_so why w moment (asked request)
+    → (H → status ≡ status_or_500 why w moment (or_met reading asked_by)) → H
+    → status ≡ status_or_500 why w moment (asked request)
 status_as H w moment request reading why status r is h = is h
-    ∙ ap (λ a. status_so why w moment a) (asked_read request request reading r refl)
+    ∙ ap (λ a. status_or_500 why w moment a) (asked_read request request reading r refl)
 
 pub framed_as : (request : Result Message WireFault) (bytes : List ℕ) (framed : Bool) → framed
     ≡ is_ok request

@@ -62,14 +62,14 @@ IsAnsweredSo None w moment reading answer after = IsDone w moment reading answer
 IsAnsweredSo (Some why) w moment reading answer after = IsServerError why w answer after
 
 -- the status code of that answer
-abbrev pub status_so : Option ServerError → DeskWorld → ℤ → Reading Asked → ℕ
-status_so None w moment reading = status_for w moment reading
-status_so (Some why) w moment reading = 500
+abbrev pub status_or_500 : Option ServerError → DeskWorld → ℤ → Reading Asked → ℕ
+status_or_500 None w moment reading = status_for w moment reading
+status_or_500 (Some why) w moment reading = 500
 
 -- whether a change was made: not if the desk failed
-abbrev pub makes_change_so : Option ServerError → DeskWorld → ℤ → Reading Asked → Bool
-makes_change_so None w moment reading = makes_change_for w moment reading
-makes_change_so (Some why) w moment reading = false
+abbrev pub makes_change_unless_failed : Option ServerError → DeskWorld → ℤ → Reading Asked → Bool
+makes_change_unless_failed None w moment reading = makes_change_for w moment reading
+makes_change_unless_failed (Some why) w moment reading = false
 
 -- the answer `made` to a request in the world `w`, where the desk didn't fail, and the world after it; its
 -- status is never 500. `H` says that the store is honest
@@ -87,7 +87,7 @@ pub record IsAnswerReported (H : Type 0) (w : DeskWorld) (moment : ℤ) (reading
     (after : DeskWorld)
     (answer : Answer) : Type 0 where
   pub bytes : H → IsAnsweredSo answer.error w moment reading answer.bytes.items after
-  pub status : H → answer.status ≡ status_so answer.error w moment reading
-  pub change : H → answer.made_change ≡ makes_change_so answer.error w moment reading
+  pub status : H → answer.status ≡ status_or_500 answer.error w moment reading
+  pub change : H → answer.made_change ≡ makes_change_unless_failed answer.error w moment reading
   pub failed : IfSome answer.error (λ why. IsServerError why w answer.bytes.items after)
   pub gave_up : answer.status ≡ 500 → answer.error ≢ None

@@ -36,6 +36,6 @@ abbrev pub AppendsLast : Option (List ℕ) → Option (List ℕ) → List ℕ �
 AppendsLast out now last = (before : List ℕ) × Appends out now (before ++ last)
 
 -- a request was answered with the status 500
-abbrev pub IsGivenUp : Served → Type 0
-IsGivenUp (Answered status framed) = status ≡ 500
-IsGivenUp End = ⊥
+abbrev pub HasStatus500 : Served → Type 0
+HasStatus500 (Answered status framed) = status ≡ 500
+HasStatus500 End = ⊥

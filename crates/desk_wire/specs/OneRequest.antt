@@ -14,7 +14,7 @@ use Rattle.io_ends.specs.declared.serving.ServeFault.TheVariants.{Read, Write, C
 use Rattle.io_ends.specs.declared.writing.PartialWrite.{PartialWrite}
 use Rattle.io_ends.specs.Writing.{BreaksOff}
 use Rattle.desk_wire.specs.declared.response.ServerError.{ServerError}
-use Rattle.desk_wire.specs.Bytes.{IsAnsweredSo, IsServerError, status_so, world_after}
+use Rattle.desk_wire.specs.Bytes.{IsAnsweredSo, IsServerError, status_or_500, world_after}
 use Rattle.desk_wire.specs.Failing.{desk_fault}
 use Rattle.desk_wire.specs.Passage.{Passage}
 use Rattle.desk_wire.specs.Streams.{IsCut, IsRequest, is_framed}
@@ -46,7 +46,7 @@ pub record IsServed (H : Type 0) (p : Passage) (w : DeskWorld) (moment : ℤ) (a
   pub answer : List ℕ
   pub why : Option ServerError
   pub replied : IsReplied H w moment request answer why after
-  pub status_is : H → status ≡ status_so why w moment (asked request)
+  pub status_is : H → status ≡ status_or_500 why w moment (asked request)
   pub gave_up : status ≡ 500 → why ≢ None
   pub written : Appends p.writes.before p.writes.after answer
 

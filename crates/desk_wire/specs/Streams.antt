@@ -17,13 +17,13 @@ front_within room stream =
     option_or (head_len room stream) (if nat_lt (length stream) room then None else Some room)
 
 -- what these bytes are: a head, with how many bytes of a body follow it, or the fault that they have
-unfoldable pub front_read : List ℕ → Reading FrontParts
-front_read front = if ends_head front then front_in front else Err HeadTooLarge
+unfoldable pub front_parsed : List ℕ → Reading FrontParts
+front_parsed front = if ends_head front then front_in front else Err HeadTooLarge
 
 -- how many bytes of a body are to be read: 0 after a fault, since it isn't known then
-abbrev pub size_said : Reading FrontParts → ℕ
-size_said (Ok front) = front.size
-size_said (Err fault) = 0
+abbrev pub size_or_zero : Reading FrontParts → ℕ
+size_or_zero (Ok front) = front.size
+size_or_zero (Err fault) = 0
 
 -- the length of a request with `front` bytes before a body of `size` bytes. None if the stream, of which
 -- `there` bytes are there, is shorter
@@ -34,7 +34,7 @@ whole_len there front size = if nat_lt there (front + size) then None else Some 
 unfoldable pub request_len : List ℕ → Option ℕ
 request_len stream =
     option_and_then
-    (λ front. whole_len (length stream) front (size_said (front_read (take front stream))))
+    (λ front. whole_len (length stream) front (size_or_zero (front_parsed (take front stream))))
     (front_within head_room stream)
 
 -- the bytes are one whole request of a stream, and no more
@@ -69,9 +69,9 @@ byte_list None = []
 byte_list (Some b) = b ∷ []
 
 -- the parts of the code's `Front`, or its fault
-abbrev pub front_reading : Result Front WireFault → Reading FrontParts
-front_reading (Ok front) = Ok (front_shown front)
-front_reading (Err fault) = Err fault
+abbrev pub front_result : Result Front WireFault → Reading FrontParts
+front_result (Ok front) = Ok (front_shown front)
+front_result (Err fault) = Err fault
 
 -- the message of a front and a body, or the fault of the front
 abbrev pub with_body : Reading FrontParts → List ℕ → Reading MessageParts

@@ -11,11 +11,11 @@ ghost use Rattle.desk_store.specs.StoreFrames.{Remembers};
 ghost use Rattle.desk_store.specs.StoreFaults.{IsHonest};
 ghost use Rattle.desk_run.specs.DeskWorld.{world_of};
 ghost use Rattle.io_ends.specs.declared.serving.ServeFault.TheVariants as serve_fault;
-ghost use Rattle.desk_wire.specs.FailureCauses.{HasFailed, IsGivenUp};
+ghost use Rattle.desk_wire.specs.FailureCauses.{HasFailed, HasStatus500};
 ghost use Rattle.desk_wire.specs.RequestsKept.{IsServedKept};
 ghost use Rattle.desk_wire.specs.Passage.{passage};
 ghost use Rattle.desk_wire.specs.OneRequest.{HasServed, IsTaken, Stops};
-ghost use Rattle.desk_wire.specs.Streams.{IsCut, IsFront, byte_list, front_read, front_reading, size_said, with_body};
+ghost use Rattle.desk_wire.specs.Streams.{IsCut, IsFront, byte_list, front_parsed, front_result, size_or_zero, with_body};
 
 use crate::answering::answer_request;
 use desk_run::Desk;
@@ -51,7 +51,7 @@ pub fn serve_one<S: PlanStore, R: Read, W: Write>(
     ensures kept { IsServedKept S.PlanStore desk.old desk.new result
         (passage R.Read W.Write input.old input.new output.old output.new) moment.second }
     ensures remembered { Remembers S.doubt S.faults S.is_shielded desk.old.store desk.new.store }
-    ensures cause { IfOk result (λ served. IsGivenUp served → HasFailed (Appends (W.contents output.old)
+    ensures cause { IfOk result (λ served. HasStatus500 served → HasFailed (Appends (W.contents output.old)
         (W.contents output.new)) (S.faults desk.old.store) (S.faults desk.new.store)) }
 {
     let mut reads = MAX_READS;
@@ -110,9 +110,9 @@ fn served(status: u16, request: &Result<Message<'_>, WireFault>) -> Served
 
 // Parses `text`, the bytes read as a head, and finds the length of the body that is to follow. `HeadTooLarge`
 // if no head ends with them.
-#[tactic(auto, unfolding(crate::specs::Streams::front_read))]
+#[tactic(auto, unfolding(crate::specs::Streams::front_parsed))]
 fn parse_front(text: &[u8]) -> Result<Front<'_>, WireFault>
-    ensures { front_reading result ≡ front_read text.now }
+    ensures { front_result result ≡ front_parsed text.now }
 {
     if is_ended(text) {
         read_front(text)
@@ -124,7 +124,7 @@ fn parse_front(text: &[u8]) -> Result<Front<'_>, WireFault>
 // The length of the body that is to be read after `front`, in bytes: 0 after a fault, since it isn't known
 // then.
 fn body_size(front: &Result<Front<'_>, WireFault>) -> u64
-    ensures { result ≡ size_said (front_reading front.now) }
+    ensures { result ≡ size_or_zero (front_result front.now) }
 {
     match front {
         Ok(front) => front.size,
@@ -137,7 +137,7 @@ fn attach_body<'t>(
     front: Result<Front<'t>, WireFault>,
     body: &'t [u8],
 ) -> Result<Message<'t>, WireFault>
-    ensures { message_read result ≡ with_body (front_reading front.entry) body.now }
+    ensures { message_read result ≡ with_body (front_result front.entry) body.now }
 {
     match front {
         Ok(Front { head, .. }) => Ok(Message { head, body }),

@@ -65,9 +65,9 @@ next_at place.Empty true true = next.Access
 next_at it true made = next.Nothing state.NoPath
 
 -- what is at a path where no file exists, for a command that makes the file: by whether a link is there
-abbrev pub unmade_by : Bool → FileState
-unmade_by true = state.DeadLink
-unmade_by false = state.Free
+abbrev pub free_or_dead_link : Bool → FileState
+free_or_dead_link true = state.DeadLink
+free_or_dead_link false = state.Free
 
 -- why a file can't be opened: by the error of opening it for reading, and by that of opening it for writing
 abbrev pub reading_denial : Option ErrorKind → Option Denial
@@ -116,7 +116,7 @@ IsStartAt it path (Err denial) = access_denial it path ≡ Some denial
 -- what is found at a path, by what is asked once it is known what is there
 abbrev pub IsStateBy : Answers → List ℕ → Next → FileState → Type 0
 IsStateBy it path (next.Nothing found) now = now ≡ found
-IsStateBy it path next.Link now = now ≡ unmade_by (is_ok (it.entry path))
+IsStateBy it path next.Link now = now ≡ free_or_dead_link (is_ok (it.entry path))
 IsStateBy it path next.Access now = now ≡ state.Made (access_denial it path)
 IsStateBy it path next.Start now = (begun : Result Start Denial) × (now ≡ state.Filled begun)
     × IsStartAt it path begun
@@ -219,7 +219,7 @@ if_any None = None
 if_any (Some count) = if count == 0 then None else Some count
 
 abbrev pub bad_checksum_count : Answers → List ℕ → FileState → Option ℕ
-bad_checksum_count it path found = if may_be_damaged found then if_any (it.unsummed path) else None
+bad_checksum_count it path found = if may_be_damaged found then if_any (it.bad_checksums path) else None
 
 -- The text on a file that SQLite refuses: by whether its path is free, the text `found` for what was found
 -- there, the path, and the steps on the folder. At a free path a file is made and removed again: if that

@@ -20,9 +20,9 @@ pub record Answers : Type 0 where
   pub unwritten : List ℕ → Option ErrorKind
   pub unheld : List ℕ → Option Denial
   -- how many of its pages have wrong checksums, if that can be found out
-  pub unsummed : List ℕ → Option ℕ
+  pub bad_checksums : List ℕ → Option ℕ
   -- it lists its tables in an order that the desk doesn't read
-  pub disordered : List ℕ → Bool
+  pub in_other_order : List ℕ → Bool
   -- recovery applies a commit of its WAL, or that can't be found out
   pub recovered : List ℕ → Bool
 

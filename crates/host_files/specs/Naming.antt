@@ -14,7 +14,7 @@ pub data Step : Type 0 where
   Tried : List ℕ → Step
   -- a scratch copy of the first file was made at the second path: repaired (true), or byte for byte with
   -- its WAL
-  Twinned : List ℕ → List ℕ → Bool → Step
+  ScratchCopied : List ℕ → List ℕ → Bool → Step
   Removed : List ℕ → Step
   -- from the first path to the second
   Renamed : List ℕ → List ℕ → Step
@@ -74,7 +74,7 @@ named_steps to last = Removed (log_of (part_of to)) ∷ Renamed (part_of to) to 
 
 -- a step that gives no file a new name: it neither renames nor makes a scratch copy
 abbrev pub GivesNoName : Step → Type 0
-GivesNoName (Twinned source scratch mended) = ⊥
+GivesNoName (ScratchCopied source scratch mended) = ⊥
 GivesNoName (Renamed from to) = ⊥
 GivesNoName _ = ⊤
 

@@ -6,15 +6,15 @@ use Rattle.host_files.specs.declared.pairs.ScratchFault.{ScratchFault}
 use Rattle.host_files.specs.declared.pairs.ScratchFault.TheVariants as fault
 
 -- why a new file can't be made
-abbrev pub unmade_text : ErrorKind → List ℕ
-unmade_text kind.AlreadyExists = codes "it is there already"
-unmade_text kind.NotFound = codes "no such folder"
-unmade_text kind.NotADirectory = codes "no such folder"
-unmade_text kind.PermissionDenied = codes "no right to make it"
-unmade_text kind.ReadOnlyFilesystem = codes "a read-only file system"
-unmade_text kind.StorageFull = codes "a full disk"
-unmade_text kind.QuotaExceeded = codes "a full disk"
-unmade_text _ = codes "it can't be made"
+abbrev pub creation_error_text : ErrorKind → List ℕ
+creation_error_text kind.AlreadyExists = codes "it is there already"
+creation_error_text kind.NotFound = codes "no such folder"
+creation_error_text kind.NotADirectory = codes "no such folder"
+creation_error_text kind.PermissionDenied = codes "no right to make it"
+creation_error_text kind.ReadOnlyFilesystem = codes "a read-only file system"
+creation_error_text kind.StorageFull = codes "a full disk"
+creation_error_text kind.QuotaExceeded = codes "a full disk"
+creation_error_text _ = codes "it can't be made"
 
 -- the text that is reported, and whether it is about the source (true) or the scratch copy (false); None if
 -- memory ran out
@@ -26,7 +26,7 @@ fault_text (fault.ScratchCopy cause) = Some (false, cause.now)
 -- the same for a scratch copy whose file can't be made, by the kind of the error
 abbrev pub made_text : ErrorKind → Option (Bool × List ℕ)
 made_text kind.OutOfMemory = None
-made_text it = Some (false, unmade_text it)
+made_text it = Some (false, creation_error_text it)
 
 -- the same for a source that can't be opened, and for one that can't be copied, by the kind of the error
 abbrev pub source_text : ErrorKind → Option (Bool × List ℕ)

@@ -13,7 +13,7 @@ ghost use Rattle.host_files.specs.FolderSteps.{steps_of};
 use crate::files::{HostFiles, LocalHost};
 use crate::naming::{Folder, IN_USE, READ_ONLY, TAKEN, is_no_path};
 use crate::probing::probe_access;
-use crate::reporting::report_of;
+use crate::reporting::report_text;
 use crate::state::{Denial, FileState, Missing, Start};
 use std::alloc::Global;
 use std::io::Write;
@@ -46,7 +46,7 @@ fn taken_text(is_no_path: bool) -> &'static str
 /// the file `name`. If its pages may be damaged and some have wrong checksums, it says how many. A failed
 /// write and running out of memory are ignored.
 #[tactic(auto, using(crate::proofs::lemmas::Reporting::reports_nothing))]
-pub fn report_store<E: Write>(
+pub fn report_refused_file<E: Write>(
     rt: &HostRuntime,
     path: &str,
     name: &str,
@@ -59,7 +59,7 @@ pub fn report_store<E: Write>(
         Some(count) => report_pages(rt.alloc(), name, count, errors),
         None => {
             let cause = cause_of(&mut LocalHost::new(rt), path, state);
-            report_of(rt.alloc(), name, cause, errors);
+            report_text(rt.alloc(), name, cause, errors);
         }
     }
 }
@@ -72,7 +72,7 @@ fn bad_checksum_count<F: HostFiles>(files: &F, path: &str, state: FileState) -> 
     if !may_be_damaged(state) {
         return None;
     }
-    match files.unsummed(path) {
+    match files.bad_checksums(path) {
         Some(0) | None => None,
         Some(count) => Some(count),
     }
@@ -95,7 +95,7 @@ fn report_pages<E: Write>(alloc: Global, path: &str, count: u64, errors: &mut E)
         "{count} pages without their sums, as sqlite3 leaves them, or damaged"
     );
     if let Ok(text) = reported {
-        report_of(alloc, path, &text, errors);
+        report_text(alloc, path, &text, errors);
     }
 }
 

@@ -95,14 +95,14 @@ pub trait HostFiles {
 
     /// How many pages of a database have wrong checksums. `None` if its pages have no checksums, or can't
     /// be read.
-    fn unsummed(&self, path: &str) -> Option<u64>
-        ensures { IfSome (answers self.now) (λ it. result ≡ it.unsummed path.now) };
+    fn bad_checksums(&self, path: &str) -> Option<u64>
+        ensures { IfSome (answers self.now) (λ it. result ≡ it.bad_checksums path.now) };
 
     /// Whether a database lists the tables and indexes of the schema, or the first few of them, in an order
     /// that the desk doesn't read: neither the canonical one nor that of a VACUUM. False if it can't be
     /// read.
     fn is_out_of_order(&self, path: &str) -> bool
-        ensures { IfSome (answers self.now) (λ it. result ≡ it.disordered path.now) };
+        ensures { IfSome (answers self.now) (λ it. result ≡ it.in_other_order path.now) };
 
     /// Whether recovery applies a commit of the WAL of the file at a path; also true if that can't be found
     /// out. It applies none if the WAL was cut off within its first commit.
@@ -184,7 +184,7 @@ impl HostFiles for LocalHost<'_> {
         }
     }
 
-    fn unsummed(&self, path: &str) -> Option<u64> {
+    fn bad_checksums(&self, path: &str) -> Option<u64> {
         count_bad_checksums(self.rt, path)
     }
 

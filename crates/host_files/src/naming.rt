@@ -7,7 +7,7 @@ ghost use Rattle.host_files.specs.Access as access;
 ghost use Rattle.host_files.specs.LeftFiles as left;
 ghost use Rattle.host_files.specs.Naming.{AreNames, ChangesOwn, Cleared, Follows, Free, HasFailedStep, IsUnnamed, Ordered};
 ghost use Rattle.host_files.specs.Unmade as unmade;
-ghost use Rattle.host_files.specs.Naming.{Removed, Renamed, Step, Synced, Takes, TakesAll, TakesIfNone, Tried, Twinned};
+ghost use Rattle.host_files.specs.Naming.{Removed, Renamed, Step, Synced, Takes, TakesAll, TakesIfNone, Tried, ScratchCopied};
 ghost use Rattle.host_files.specs.Naming.{named_steps};
 
 use crate::files::{HostFiles, LocalHost};
@@ -57,7 +57,7 @@ pub trait Folder {
     /// byte together with its WAL. Returns why that failed, or `None`.
     fn scratch(&mut self, source: &str, scratch: &str, is_mended: bool) -> Option<ScratchFault>
         ensures { TakesIfNone (course (steps self.old) (steps self.new)) result
-            (Twinned source.now scratch.now is_mended) };
+            (ScratchCopied source.now scratch.now is_mended) };
 
     /// Removes a file, and returns whether that succeeded.
     fn remove(&mut self, path: &str) -> bool
@@ -69,7 +69,7 @@ pub trait Folder {
         ensures { Takes (course (steps self.old) (steps self.new)) result (Renamed from.now to.now) };
 
     /// Syncs the folder that a file is in, by the file's path. Returns whether that succeeded.
-    fn sync(&mut self, path: &str) -> bool
+    fn sync_parent(&mut self, path: &str) -> bool
         ensures { Takes (course (steps self.old) (steps self.new)) result (Synced path.now) };
 
     /// Rewrites the first page of the database at a path in one commit, so that it lists the tables in
@@ -101,7 +101,7 @@ impl Folder for LocalHost<'_> {
             .open(self.rt, path);
         match made.and_then(|_| fs::remove_file(self.rt, path)) {
             Ok(()) => None,
-            Err(error) => Some(unmade_text(error.kind())),
+            Err(error) => Some(creation_error_text(error.kind())),
         }
     }
 
@@ -119,7 +119,7 @@ impl Folder for LocalHost<'_> {
         fs::rename(self.rt, from, to).is_ok()
     }
 
-    fn sync(&mut self, path: &str) -> bool {
+    fn sync_parent(&mut self, path: &str) -> bool {
         sync_folder(self.rt, path).is_ok()
     }
 
@@ -129,8 +129,8 @@ impl Folder for LocalHost<'_> {
 }
 
 /// Why a new file can't be made, in the words of a report, by the kind of the error.
-pub fn unmade_text(kind: ErrorKind) -> &'static str
-    ensures { result.now ≡ unmade.unmade_text kind }
+pub fn creation_error_text(kind: ErrorKind) -> &'static str
+    ensures { result.now ≡ unmade.creation_error_text kind }
 {
     match kind {
         ErrorKind::AlreadyExists => TAKEN,
@@ -271,5 +271,5 @@ pub fn publish<N: Folder>(folder: &mut N, names: &NewFile) -> bool
     if !folder.rename(&names.part, &names.to) {
         return false;
     }
-    folder.sync(&names.to)
+    folder.sync_parent(&names.to)
 }

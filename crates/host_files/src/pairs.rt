@@ -7,7 +7,7 @@ ghost use Rattle.host_files.specs.Unmade.{IsCopyFault, IsScratchFaultBy};
 
 use crate::access::access_cause;
 use crate::files::{HostFiles, LocalHost};
-use crate::naming::{OWNER_ALONE, is_missing, name_with, unmade_text};
+use crate::naming::{OWNER_ALONE, creation_error_text, is_missing, name_with};
 use db_file::{copy_bytes, copy_mended};
 use sqlite::Unknown;
 use sqlite_std_file::OpenError;
@@ -141,7 +141,7 @@ fn made_fault(kind: ErrorKind) -> ScratchFault
 {
     match kind {
         ErrorKind::OutOfMemory => ScratchFault::OutOfMemory,
-        kind => ScratchFault::ScratchCopy(unmade_text(kind)),
+        kind => ScratchFault::ScratchCopy(creation_error_text(kind)),
     }
 }
 

@@ -11,7 +11,7 @@ ghost use Rattle.host_files.specs.Paths.{File, IsUnheldAt, Log, Look};
 
 use crate::files::{HostFiles, Identity, LocalHost};
 use crate::naming::name_with;
-use crate::reporting::report_of;
+use crate::reporting::report_text;
 use desk_cli::{Database, ErrorCode};
 use std::alloc::Global;
 use std::io::ErrorKind;
@@ -24,15 +24,15 @@ pub trait OpenPaths {
     /// Notes which files the paths lead to: these are the open ones. It is called before the database is
     /// opened, and again afterwards, for a file that didn't exist before. A file that was noted stays
     /// noted.
-    fn hold(&mut self)
+    fn note_open_files(&mut self)
         ensures { looks self.new ≡ looks self.old };
 
     /// Whether the path of the database file still leads to the open file.
-    fn has_file(&mut self) -> bool
+    fn leads_to_file(&mut self) -> bool
         ensures { Grows (looks self.old) (looks self.new) (File result ∷ []) };
 
     /// Whether the path of the WAL still leads to the open WAL.
-    fn has_log(&mut self) -> bool
+    fn leads_to_log(&mut self) -> bool
         ensures { Grows (looks self.old) (looks self.new) (Log result ∷ []) };
 }
 
@@ -41,13 +41,13 @@ pub trait OpenPaths {
 pub struct NoPaths;
 
 impl OpenPaths for NoPaths {
-    fn hold(&mut self) {}
+    fn note_open_files(&mut self) {}
 
-    fn has_file(&mut self) -> bool {
+    fn leads_to_file(&mut self) -> bool {
         true
     }
 
-    fn has_log(&mut self) -> bool {
+    fn leads_to_log(&mut self) -> bool {
         true
     }
 }
@@ -120,13 +120,13 @@ impl LocalOpenPaths<'_> {
     {
         if !self.is_reported {
             self.is_reported = true;
-            report_of(self.rt.alloc(), self.file, text, &mut self.rt.stderr());
+            report_text(self.rt.alloc(), self.file, text, &mut self.rt.stderr());
         }
     }
 }
 
 impl OpenPaths for LocalOpenPaths<'_> {
-    fn hold(&mut self) {
+    fn note_open_files(&mut self) {
         if self.held_file.is_none() {
             self.held_file = identity_at(&LocalHost::new(self.rt), self.file);
         }
@@ -135,7 +135,7 @@ impl OpenPaths for LocalOpenPaths<'_> {
         }
     }
 
-    fn has_file(&mut self) -> bool {
+    fn leads_to_file(&mut self) -> bool {
         let is_there = is_at(&LocalHost::new(self.rt), self.file, self.held_file);
         if !is_there {
             self.report_once("it was moved or removed while the desk ran");
@@ -143,7 +143,7 @@ impl OpenPaths for LocalOpenPaths<'_> {
         is_there
     }
 
-    fn has_log(&mut self) -> bool {
+    fn leads_to_log(&mut self) -> bool {
         let is_there = is_at(&LocalHost::new(self.rt), &self.log, self.held_log);
         if !is_there {
             self.report_once("its log was moved or removed while the desk ran");

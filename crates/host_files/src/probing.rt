@@ -11,7 +11,7 @@ ghost use Rattle.host_files.specs.Openings.{OpensAtMost};
 use crate::files::{HostFiles, LocalHost};
 use crate::naming::is_no_path;
 use crate::state::{
-    Denial, FileState, Next, Start, next_at, place_of, reading_denial, start_of, unmade_by,
+    Denial, FileState, Next, Start, free_or_dead_link, next_at, place_of, reading_denial, start_of,
     writing_denial,
 };
 use std::io::{ErrorKind, Read};
@@ -31,7 +31,7 @@ fn probe_at<F: HostFiles>(files: &mut F, path: &str, is_made: bool) -> FileState
 {
     match next_at(place_of(files.find(path)), is_no_path(path), is_made) {
         Next::Nothing(state) => state,
-        Next::Link => unmade_by(files.find_entry(path).is_ok()),
+        Next::Link => free_or_dead_link(files.find_entry(path).is_ok()),
         Next::Access => FileState::Made(probe_access(files, path)),
         Next::Start => FileState::Filled(probe_start(files, path)),
     }

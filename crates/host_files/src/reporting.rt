@@ -16,7 +16,7 @@ const UNENROLLED: &str = "no operator is enrolled, so each request is answered 4
 /// Prints the line `uss_desk: PATH: TEXT` on `errors`, the standard error. A failed write and running out of
 /// memory are ignored.
 #[tactic(auto, using(crate::proofs::lemmas::Reporting::reports_noted))]
-pub fn report_of<E: Write>(alloc: Global, path: &str, text: &str, errors: &mut E)
+pub fn report_text<E: Write>(alloc: Global, path: &str, text: &str, errors: &mut E)
     ensures line { IsWrittenIfRoom (spec.line_of path.now text.now)
         (bytes_written E.Write errors.old errors.new) }
     ensures reported { Reports (bytes_written E.Write errors.old errors.new) }
@@ -57,7 +57,7 @@ pub fn report_malformed_argument<E: Write>(alloc: Global, words: &[String], erro
     ensures { Reports (bytes_written E.Write errors.old errors.new) }
 {
     if let Some((word, cause)) = find_malformed_argument(alloc, words) {
-        report_of(alloc, word, cause, errors);
+        report_text(alloc, word, cause, errors);
     }
 }
 
@@ -68,7 +68,7 @@ pub fn report_unenrolled<E: Write>(alloc: Global, path: Option<&str>, errors: &m
         (bytes_written E.Write errors.old errors.new) }
 {
     match path {
-        Some(path) => report_of(alloc, path, UNENROLLED, errors),
-        None => report_of(alloc, "in memory", UNENROLLED, errors),
+        Some(path) => report_text(alloc, path, UNENROLLED, errors),
+        None => report_text(alloc, "in memory", UNENROLLED, errors),
     }
 }

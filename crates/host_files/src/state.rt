@@ -148,8 +148,8 @@ pub fn next_at(place: Place, is_no_path: bool, is_made: bool) -> Next
 
 /// What is at a path where no file exists, for a command that makes the file: a link to nothing if
 /// `is_link`, else nothing.
-pub fn unmade_by(is_link: bool) -> FileState
-    ensures { result ≡ spec.unmade_by is_link }
+pub fn free_or_dead_link(is_link: bool) -> FileState
+    ensures { result ≡ spec.free_or_dead_link is_link }
 {
     if is_link {
         FileState::DeadLink

@@ -4,7 +4,7 @@ use Rattle.std.specs.List.{filter}
 use Rattle.std.proofs.lemmas.List.{length-append}
 use Rattle.std.proofs.lemmas.List.Elements.{filter-append}
 use Rattle.live_index.specs.declared.volume.LiveVolume.{LiveVolume}
-use Rattle.live_index.specs.Live.{RemovesPlanVolumes, count_of, is_beside, is_volume_of}
+use Rattle.live_index.specs.Live.{RemovesPlanVolumes, count_of, is_of_other_plan, is_volume_of}
 
 module _ (o id : List ℕ) where
   count-append : (xs ys : List LiveVolume) → count_of o id (xs ++ ys) ≡ count_of o id xs + count_of o id ys
@@ -16,72 +16,72 @@ module _ (o id : List ℕ) where
   pub left_behind : (n : ℕ) (us xs ys : List LiveVolume) → RemovesPlanVolumes o id xs ys n
       → RemovesPlanVolumes o id (us ++ xs) (us ++ ys) n
   left_behind n us xs ys h = record {
-    others = filter-append (is_beside o id) us ys
-        ∙ ap (λ vs. filter (is_beside o id) us ++ vs) h.others
-        ∙ sym (filter-append (is_beside o id) us xs);
+    others = filter-append (is_of_other_plan o id) us ys
+        ∙ ap (λ vs. filter (is_of_other_plan o id) us ++ vs) h.others
+        ∙ sym (filter-append (is_of_other_plan o id) us xs);
     fewer = let a = count-append us xs in let b = count-append us ys in omega (arith, a, b, h.fewer);
   }
 
   pub left_before : (n : ℕ) (us xs ys : List LiveVolume) → RemovesPlanVolumes o id xs ys n
       → RemovesPlanVolumes o id (xs ++ us) (ys ++ us) n
   left_before n us xs ys h = record {
-    others = filter-append (is_beside o id) ys us
-        ∙ ap (λ vs. vs ++ filter (is_beside o id) us) h.others
-        ∙ sym (filter-append (is_beside o id) xs us);
+    others = filter-append (is_of_other_plan o id) ys us
+        ∙ ap (λ vs. vs ++ filter (is_of_other_plan o id) us) h.others
+        ∙ sym (filter-append (is_of_other_plan o id) xs us);
     fewer = let a = count-append xs us in let b = count-append ys us in omega (arith, a, b, h.fewer);
   }
 
   -- ---- all of some
 
-  both_counted : (xs : List LiveVolume) → count_of o id xs + length (filter (is_beside o id) xs) ≡ length xs
+  both_counted : (xs : List LiveVolume) → count_of o id xs + length (filter (is_of_other_plan o id) xs) ≡ length xs
   both_counted [] = refl
   both_counted (x ∷ xs) = go (is_volume_of o id x) (both_counted xs) where
-    go : (b : Bool) → count_of o id xs + length (filter (is_beside o id) xs) ≡ length xs
+    go : (b : Bool) → count_of o id xs + length (filter (is_of_other_plan o id) xs) ≡ length xs
         → length (cond b (x ∷ filter (is_volume_of o id) xs) (filter (is_volume_of o id) xs))
-        + length (cond (not b) (x ∷ filter (is_beside o id) xs) (filter (is_beside o id) xs))
+        + length (cond (not b) (x ∷ filter (is_of_other_plan o id) xs) (filter (is_of_other_plan o id) xs))
         ≡ suc (length xs)
     go true e = omega (arith, e)
     go false e = omega (arith, e)
 
-  twice : (xs : List LiveVolume) → filter (is_beside o id) (filter (is_beside o id) xs)
-      ≡ filter (is_beside o id) xs
+  twice : (xs : List LiveVolume) → filter (is_of_other_plan o id) (filter (is_of_other_plan o id) xs)
+      ≡ filter (is_of_other_plan o id) xs
   twice [] = refl
   twice (x ∷ xs) = go (is_volume_of o id x) refl (twice xs) where
     go : (b : Bool) → is_volume_of o id x ≡ b
-        → filter (is_beside o id) (filter (is_beside o id) xs) ≡ filter (is_beside o id) xs
-        → filter (is_beside o id) (cond (not b) (x ∷ filter (is_beside o id) xs) (filter (is_beside o id) xs))
-        ≡ cond (not b) (x ∷ filter (is_beside o id) xs) (filter (is_beside o id) xs)
+        → filter (is_of_other_plan o id) (filter (is_of_other_plan o id) xs) ≡ filter (is_of_other_plan o id) xs
+        → filter (is_of_other_plan o id) (cond (not b) (x ∷ filter (is_of_other_plan o id) xs) (filter (is_of_other_plan o id) xs))
+        ≡ cond (not b) (x ∷ filter (is_of_other_plan o id) xs) (filter (is_of_other_plan o id) xs)
     go true e h = h
-    go false e h = ap (λ b. cond (not b) (x ∷ filter (is_beside o id) (filter (is_beside o id) xs))
-        (filter (is_beside o id) (filter (is_beside o id) xs))) e ∙ ap (λ vs. x ∷ vs) h
+    go false e h = ap (λ b. cond (not b) (x ∷ filter (is_of_other_plan o id) (filter (is_of_other_plan o id) xs))
+        (filter (is_of_other_plan o id) (filter (is_of_other_plan o id) xs))) e ∙ ap (λ vs. x ∷ vs) h
 
-  pub none_of : (xs : List LiveVolume) → count_of o id (filter (is_beside o id) xs) ≡ 0
+  pub none_of : (xs : List LiveVolume) → count_of o id (filter (is_of_other_plan o id) xs) ≡ 0
   none_of xs =
-      let a = both_counted (filter (is_beside o id) xs) in
+      let a = both_counted (filter (is_of_other_plan o id) xs) in
       let b = ap length (twice xs) in omega (arith, a, b)
 
-  pub left_filtered : (old new : List LiveVolume) (gone : ℕ) → new ≡ filter (is_beside o id) old
+  pub left_filtered : (old new : List LiveVolume) (gone : ℕ) → new ≡ filter (is_of_other_plan o id) old
       → gone ≡ length old - length new → RemovesPlanVolumes o id old new gone
   left_filtered old new gone is count = record {
-    others = ap (filter (is_beside o id)) is ∙ twice old;
+    others = ap (filter (is_of_other_plan o id)) is ∙ twice old;
     fewer =
         let a = both_counted old in
         let b = ap length is in
         let c = ap (count_of o id) is ∙ none_of old in omega (arith, a, b, c, count);
   }
 
-  none_there : (xs : List LiveVolume) → count_of o id xs ≡ 0 → filter (is_beside o id) xs ≡ xs
+  none_there : (xs : List LiveVolume) → count_of o id xs ≡ 0 → filter (is_of_other_plan o id) xs ≡ xs
   none_there [] = λ e. refl
   none_there (x ∷ xs) = go (is_volume_of o id x) (none_there xs) where
-    go : (b : Bool) → (count_of o id xs ≡ 0 → filter (is_beside o id) xs ≡ xs)
+    go : (b : Bool) → (count_of o id xs ≡ 0 → filter (is_of_other_plan o id) xs ≡ xs)
         → length (cond b (x ∷ filter (is_volume_of o id) xs) (filter (is_volume_of o id) xs)) ≡ 0
-        → cond (not b) (x ∷ filter (is_beside o id) xs) (filter (is_beside o id) xs) ≡ x ∷ xs
+        → cond (not b) (x ∷ filter (is_of_other_plan o id) xs) (filter (is_of_other_plan o id) xs) ≡ x ∷ xs
     go true h e = absurd (omega (arith, e))
     go false h e = ap (λ vs. x ∷ vs) (h e)
 
   -- so many as there were
   pub left_all : (old new : List LiveVolume) (gone : ℕ) → RemovesPlanVolumes o id old new gone → count_of o id old ≤ gone
-      → new ≡ filter (is_beside o id) old
+      → new ≡ filter (is_of_other_plan o id) old
   left_all old new gone h all = sym (none_there new (omega (arith, h.fewer, all))) ∙ h.others
 
   -- ---- counts

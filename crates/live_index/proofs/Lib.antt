@@ -1,11 +1,11 @@
 pub mod lemmas
 pub mod VolumeLemmas
-pub mod FenceLemmas
+pub mod BoxLemmas
 pub mod GatherLemmas
 pub mod ChunkLemmas
 pub mod OrderLemmas
 pub mod LeftLemmas
-pub mod HedgeLemmas
+pub mod GroupBoxLemmas
 pub mod PlaceLemmas
 pub mod LiveLemmas
 pub mod RegionLemmas

@@ -7,15 +7,15 @@ use Rattle.std.proofs.lemmas.List.Folds.{list_any_more}
 use Rattle.std.proofs.lemmas.List.Sorted.{IsPermutation-trans, IsPermutation-append_left, IsPermutation-append_comm}
 use Rattle.desk_store.specs.World.{World}
 use Rattle.live_index.specs.declared.volume.LiveVolume.{LiveVolume}
-use Rattle.live_index.specs.Live.{AreLive, is_beside, is_of_any, is_volume_of}
+use Rattle.live_index.specs.Live.{AreLive, is_of_other_plan, is_of_any, is_volume_of}
 use Rattle.live_index.proofs.lemmas.Live.{live_permuted}
 
 -- what is left of those in groups and of the others
 pub left_of_both : (o id : List ℕ) (old left unindexed younger : List LiveVolume)
-    → left ≡ filter (is_beside o id) old → younger ≡ filter (is_beside o id) unindexed
-    → left ++ younger ≡ filter (is_beside o id) (old ++ unindexed)
+    → left ≡ filter (is_of_other_plan o id) old → younger ≡ filter (is_of_other_plan o id) unindexed
+    → left ++ younger ≡ filter (is_of_other_plan o id) (old ++ unindexed)
 left_of_both o id old left unindexed younger a b =
-    (λ i. a i ++ b i) ∙ sym (filter-append (is_beside o id) old unindexed)
+    (λ i. a i ++ b i) ∙ sym (filter-append (is_of_other_plan o id) old unindexed)
 
 -- and then some more
 pub followed : (stays : LiveVolume → Bool) (old left younger now fresh : List LiveVolume)
@@ -47,18 +47,18 @@ none_named o xs = filter_none xs
 -- one more id
 pub one_more_named : (o : List ℕ) (ids : List (List ℕ)) (i : ℕ) (id : List ℕ) (old mid new : List LiveVolume)
     → i < length ids → id ≡ get_or ids i id
-    → mid ≡ filter (λ l. not (is_of_any o (take i ids) l)) old → new ≡ filter (is_beside o id) mid
+    → mid ≡ filter (λ l. not (is_of_any o (take i ids) l)) old → new ≡ filter (is_of_other_plan o id) mid
     → new ≡ filter (λ l. not (is_of_any o (take (i + 1) ids) l)) old
 one_more_named o ids i id old mid new below is before then =
-    then ∙ ap (filter (is_beside o id)) before
-    ∙ filter_both (is_beside o id) (λ l. not (is_of_any o (take i ids) l))
+    then ∙ ap (filter (is_of_other_plan o id)) before
+    ∙ filter_both (is_of_other_plan o id) (λ l. not (is_of_any o (take i ids) l))
     (λ l. not (is_of_any o (take (i + 1) ids) l)) each old where
       or_not : (a b : Bool) → not (a || b) ≡ (not a && not b)
       or_not true b = refl
       or_not false b = refl
 
       each : (l : LiveVolume) → not (is_of_any o (take (i + 1) ids) l)
-          ≡ (not (is_of_any o (take i ids) l) && is_beside o id l)
+          ≡ (not (is_of_any o (take i ids) l) && is_of_other_plan o id l)
       each l = ap not (list_any_more (λ k. is_volume_of o k l) ids i id below
           ∙ ap (λ k. is_of_any o (take i ids) l || is_volume_of o k l) (sym is))
           ∙ or_not (is_of_any o (take i ids) l) (is_volume_of o id l)

@@ -36,7 +36,7 @@ use Rattle.live_index.specs.declared.volume.LiveVolume.{LiveVolume}
 use Rattle.live_index.specs.Live.{AreLive, AreVolumes, AreVolumesOf, IsInBox, IsLiveVolume, is_volume_of, may_meet, gather}
 use Rattle.live_index.specs.Places.{key_cmp}
 use Rattle.slab_regions.specs.SearchArea.{meets, sought_has}
-use Rattle.live_index.specs.Near.{AddsPlans, AreNearPlans, AreWantedPlans, IsAnothers, LooksOn, TakesPlan, is_among, is_id, is_listed, is_missed_at, is_near_to, is_own_volume, is_wanted_volume, key_of, listed_level, listed_top}
+use Rattle.live_index.specs.Near.{AddsPlans, AreNearPlans, AreWantedPlans, IsNotOwnPlan, ListsSamePlans, TakesPlan, is_among, is_id, is_listed, is_missed_at, is_near_to, is_own_volume, is_wanted_volume, key_of, listed_level, listed_top}
 use Rattle.live_index.proofs.GatherLemmas.{all_at, gathered_more}
 use Rattle.live_index.proofs.lemmas.Live.{and_turned, same_key}
 
@@ -179,8 +179,8 @@ takes_one live old new k mine is same = record {
       (ap (λ j. is_volume_of j.operator j.id live) mine
       ∙ and_from (is_eq (text_cmp live.id live.id)) (is_eq (text_cmp live.operator live.operator))
       (itself live.id) (itself live.operator)) ∙ last (is_among old.keys.keys live);
-  another = λ s h hs. subst (AllByRecursion (IsAnothers s)) (sym is)
-      (all_with (IsAnothers s) k old.keys.keys (subst (IsAnothers s) (sym mine) h) hs);
+  another = λ s h hs. subst (AllByRecursion (IsNotOwnPlan s)) (sym is)
+      (all_with (IsNotOwnPlan s) k old.keys.keys (subst (IsNotOwnPlan s) (sym mine) h) hs);
 } where
   among : (other : LiveVolume) → is_among new.keys.keys other
       ≡ (is_among old.keys.keys other || is_volume_of k.operator k.id other)
@@ -208,13 +208,13 @@ module _ (s : Wanted) where
   adds_none inside a = adds_nothing inside [] a (λ e x h. refl)
 
   -- a chunk was counted before
-  pub adds_looked : (inside : Point → Bool) (lives : List LiveVolume) (a b c : NearPlans) → LooksOn a b
+  pub adds_looked : (inside : Point → Bool) (lives : List LiveVolume) (a b c : NearPlans) → ListsSamePlans a b
       → AddsPlans s inside lives b c → AddsPlans s inside lives a c
   adds_looked inside lives a b c look more = record {
     kept = λ live h. more.kept live (ap (λ ks. is_among ks live) look.same ∙ h);
     still = λ e. look.still (more.still e);
     whole = more.whole;
-    another = λ h. more.another (subst (AllByRecursion (IsAnothers s)) (sym look.same) h);
+    another = λ h. more.another (subst (AllByRecursion (IsNotOwnPlan s)) (sym look.same) h);
   }
 
   -- the volume isn't near
@@ -347,10 +347,10 @@ module _ (s : Wanted) where
             (still_low s.least live.priority bbox.top h.top high)
             (meeting bbox.bounds sought x (within_has live.bounds bbox.bounds x h.within has) here)) ∙ far))
 
-  pub adds_fenced : (sought : SearchArea) (bbox : BoundingBox) (lives : List LiveVolume) (a : NearPlans)
+  pub adds_none_far : (sought : SearchArea) (bbox : BoundingBox) (lives : List LiveVolume) (a : NearPlans)
       → may_meet s.least sought bbox ≡ false → AllByRecursion (IsInBox bbox) lives
       → AddsPlans s (sought_has sought) lives a a
-  adds_fenced sought bbox lives a far h =
+  adds_none_far sought bbox lives a far h =
       adds_nothing (sought_has sought) lives a (λ e x here. all_apart x here lives h) where
         all_apart : (x : Point) → sought_has sought x ≡ true → (ls : List LiveVolume)
             → AllByRecursion (IsInBox bbox) ls → list_any (is_missed_at s a.keys.keys x) ls ≡ false
@@ -381,7 +381,7 @@ module _ (s : Wanted) where
   is_mine p = is_id s.id p.row.id && is_by s.operator p
 
   -- a plan that is listed is no own one
-  not_own : (ks : List PlanKey) → AllByRecursion (IsAnothers s) ks → (p : Filed) → is_listed ks p ≡ true
+  not_own : (ks : List PlanKey) → AllByRecursion (IsNotOwnPlan s) ks → (p : Filed) → is_listed ks p ≡ true
       → not (is_mine p) ≡ true
   not_own [] h p there = absurd (true≢false (sym there))
   not_own (k ∷ ks) h p there =
@@ -396,7 +396,7 @@ module _ (s : Wanted) where
             ap not ((λ i. is_id s.id (sym id i) && is_eq (text_cmp s.operator (sym operator i))) ∙ h.0)
         go false e r ih = ih r
 
-  module _ (ks : List PlanKey) (another : AllByRecursion (IsAnothers s) ks) (x : Point) where
+  module _ (ks : List PlanKey) (another : AllByRecursion (IsNotOwnPlan s) ks) (x : Point) where
     among_is : (js : List PlanKey) (p : Filed) (v : Block) (l : LiveVolume) → IsLiveVolume p v l
         → is_among js l ≡ is_listed js p
     among_is [] p v l h = refl
@@ -520,8 +520,8 @@ pub near_plans : (s : Wanted) (inside : Point → Bool) (lives : List LiveVolume
     → ks ≡ near.keys.keys → near.is_complete ≡ true → AreNearPlans s inside lives ks
 near_plans s inside lives start near ks none added same whole = record {
   whole = λ x here. ap (λ js. list_any (is_missed_at s js x) lives) same ∙ added.whole whole x here;
-  another = subst (AllByRecursion (IsAnothers s)) (sym same)
-      (added.another (subst (AllByRecursion (IsAnothers s)) (sym none) tt));
+  another = subst (AllByRecursion (IsNotOwnPlan s)) (sym same)
+      (added.another (subst (AllByRecursion (IsNotOwnPlan s)) (sym none) tt));
 }
 
 pub some_weaker : {V : Type 0} {P Q : V → Type 0} (r : Option V) → ((v : V) → P v → Q v) → IfSome r P

@@ -13,9 +13,9 @@ use Rattle.desk_store.proofs.lemmas.Order.{is_equal}
 use Rattle.live_index.specs.declared.near.PlanKey.{PlanKey}
 use Rattle.live_index.specs.declared.places.Places.{Places}
 use Rattle.live_index.specs.declared.volume.LiveVolume.{LiveVolume}
-use Rattle.live_index.specs.Live.{ArePlaced, count_of, is_beside, is_volume_of}
+use Rattle.live_index.specs.Live.{ArePlaced, count_of, is_of_other_plan, is_volume_of}
 use Rattle.live_index.specs.Near.{key_of}
-use Rattle.live_index.specs.Places.{AreNoFewer, AreOthers, IsOneMore, Lists, key_cmp, length_or_none, list_of, places_at, places_in}
+use Rattle.live_index.specs.Places.{AreNoFewer, OthersAreNoFewer, HasOneMore, Lists, key_cmp, length_or_none, list_of, places_at, places_in}
 use Rattle.live_index.proofs.LeftLemmas.{count_less, none_of}
 use Rattle.live_index.proofs.lemmas.Lists.{IsPermutation-filter}
 use Rattle.std.proofs.lemmas.List.Sorted.{IsPermutation-append_comm, length_permutation as length_permuted}
@@ -58,7 +58,7 @@ grown k old new b writes more q = go (is_eq (key_cmp k q)) refl (writes q) where
   go false e is = subst (λ n. places_in q old ≤ n) (sym (ap length_or_none is)) (omega arith)
 
 pub others_stay : (k : PlanKey) (old new : Lists) (b : Option (Vec ℕ)) → AreWritten k old new b
-    → AreOthers k old new
+    → OthersAreNoFewer k old new
 others_stay k old new b writes q e =
     subst (λ n. places_in q old ≤ n)
     (sym (ap length_or_none (writes q ∙ ap (λ t. cond t b (list_of q old)) e))) (omega arith)
@@ -82,7 +82,7 @@ absent (Some v) e = cc
 -- one more volume, of which a place is added
 pub placed_added : (old new : Places) (live : LiveVolume) (xs ys : List LiveVolume)
     → ArePlaced old xs → AreNoFewer old.plans.entries new.plans.entries
-    → IsOneMore (key_of live) old.plans.entries new.plans.entries → IsPermutation (live ∷ xs) ys
+    → HasOneMore (key_of live) old.plans.entries new.plans.entries → IsPermutation (live ∷ xs) ys
     → ArePlaced new ys
 placed_added old new live xs ys placed kept added same o id =
     subst (λ n. n ≤ places_at o id new) (sym counted) (go (is_volume_of o id live) refl) where
@@ -102,14 +102,14 @@ placed_added old new live xs ys placed kept added same o id =
             operator = sym (same_text o live.operator parts.1) i;
             id = sym (same_text id live.id parts.0) i;
           } in
-          let more = subst (λ k. IsOneMore k old.plans.entries new.plans.entries) mine added in
+          let more = subst (λ k. HasOneMore k old.plans.entries new.plans.entries) mine added in
           let before = placed o id in omega (arith, more, before)
       go false e = let more = kept key in let before = placed o id in omega (arith, more, before)
 
 pub placed_more : (old new : Places) (lives : List LiveVolume) (i : ℕ) (live : LiveVolume)
     → i < length lives → live ≡ get_or lives i live → ArePlaced old (take i lives)
     → AreNoFewer old.plans.entries new.plans.entries
-    → IsOneMore (key_of live) old.plans.entries new.plans.entries → ArePlaced new (take (i + 1) lives)
+    → HasOneMore (key_of live) old.plans.entries new.plans.entries → ArePlaced new (take (i + 1) lives)
 placed_more old new lives i live below is placed kept added =
     placed_added old new live (take i lives) (take (i + 1) lives) placed kept added
     (subst (IsPermutation (live ∷ take i lives))
@@ -118,21 +118,21 @@ placed_more old new lives i live below is placed kept added =
 
 -- a plan's volumes are out, and its places are forgotten
 pub placed_without : (old new : Places) (key : PlanKey) (xs ys : List LiveVolume) → ArePlaced old xs
-    → AreOthers key old.plans.entries new.plans.entries
-    → ys ≡ filter (is_beside key.operator key.id) xs → ArePlaced new ys
+    → OthersAreNoFewer key old.plans.entries new.plans.entries
+    → ys ≡ filter (is_of_other_plan key.operator key.id) xs → ArePlaced new ys
 placed_without old new key xs ys placed others is o id =
     subst (λ vs. count_of o id vs ≤ places_at o id new) (sym is) (go (is_eq (key_cmp key other)) refl) where
       other : PlanKey
       other = record { operator = o; id = id }
 
       go : (t : Bool) → is_eq (key_cmp key other) ≡ t
-          → count_of o id (filter (is_beside key.operator key.id) xs) ≤ places_at o id new
+          → count_of o id (filter (is_of_other_plan key.operator key.id) xs) ≤ places_at o id new
       go true e =
-          let none : count_of o id (filter (is_beside key.operator key.id) xs) ≡ 0 =
-          subst (λ k. count_of o id (filter (is_beside k.operator k.id) xs) ≡ 0) (sym (same_key key other e))
+          let none : count_of o id (filter (is_of_other_plan key.operator key.id) xs) ≡ 0 =
+          subst (λ k. count_of o id (filter (is_of_other_plan k.operator k.id) xs) ≡ 0) (sym (same_key key other e))
           (none_of o id xs) in omega (arith, none)
       go false e =
-          let less = count_less o id (is_beside key.operator key.id) xs in
+          let less = count_less o id (is_of_other_plan key.operator key.id) xs in
           let before = placed o id in
           let more = others other e in omega (arith, less, before, more)
 

@@ -60,8 +60,8 @@ abbrev pub is_volume_of : List ℕ → List ℕ → LiveVolume → Bool
 is_volume_of operator id live = is_eq (text_cmp id live.id) && is_eq (text_cmp operator live.operator)
 
 -- whether a volume is of another plan than the operator's with the id
-abbrev pub is_beside : List ℕ → List ℕ → LiveVolume → Bool
-is_beside operator id live = not (is_volume_of operator id live)
+abbrev pub is_of_other_plan : List ℕ → List ℕ → LiveVolume → Bool
+is_of_other_plan operator id live = not (is_volume_of operator id live)
 
 -- ---- what is kept
 
@@ -144,20 +144,20 @@ is_of_any operator ids live = list_any (λ id. is_volume_of operator id live) id
 -- whether a volume stays when a change is made, which takes out the volumes of the plans that it names
 abbrev pub stays_at : Change → LiveVolume → Bool
 stays_at (Enrol operator ceiling) live = true
-stays_at (Put operator row) live = is_beside operator row.id live
-stays_at (Close operator id) live = is_beside operator id live
+stays_at (Put operator row) live = is_of_other_plan operator row.id live
+stays_at (Close operator id) live = is_of_other_plan operator id live
 stays_at (Clear operator ids) live = not (is_of_any operator ids.items live)
 
 -- `fresh` has the volumes that a change adds: a put adds those of its plan
-abbrev pub AreBrought : Change → List LiveVolume → Type 0
-AreBrought (Enrol operator ceiling) fresh = fresh ≡ []
-AreBrought (Put operator row) fresh = AreVolumesOf (filed_by operator row) fresh
-AreBrought (Close operator id) fresh = fresh ≡ []
-AreBrought (Clear operator ids) fresh = fresh ≡ []
+abbrev pub AreAddedBy : Change → List LiveVolume → Type 0
+AreAddedBy (Enrol operator ceiling) fresh = fresh ≡ []
+AreAddedBy (Put operator row) fresh = AreVolumesOf (filed_by operator row) fresh
+AreAddedBy (Close operator id) fresh = fresh ≡ []
+AreAddedBy (Clear operator ids) fresh = fresh ≡ []
 
 -- only volumes of the operator's plan with the id were removed, at least `gone` of them
 pub record RemovesPlanVolumes (operator id : List ℕ) (old new : List LiveVolume) (gone : ℕ) : Type 0 where
-  pub others : filter (is_beside operator id) new ≡ filter (is_beside operator id) old
+  pub others : filter (is_of_other_plan operator id) new ≡ filter (is_of_other_plan operator id) old
   pub fewer : count_of operator id new + gone ≤ count_of operator id old
 
 -- of all volumes of an index those are left that pass the test `stays`

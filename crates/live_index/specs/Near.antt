@@ -77,8 +77,8 @@ is_missed_at wanted keys x live =
     (slab_has live.bounds x && is_wanted_volume wanted live) && not (is_among keys live)
 
 -- a plan is none that `wanted` leaves out
-abbrev pub IsAnothers : Wanted → PlanKey → Type 0
-IsAnothers wanted k = (is_id wanted.id k.id && is_eq (text_cmp wanted.operator k.operator)) ≡ false
+abbrev pub IsNotOwnPlan : Wanted → PlanKey → Type 0
+IsNotOwnPlan wanted k = (is_id wanted.id k.id && is_eq (text_cmp wanted.operator k.operator)) ≡ false
 
 -- plans were added for the volumes `lives`, and none was dropped; if `new` is complete, no volume is missed
 -- at the points that pass the test `inside`
@@ -89,11 +89,11 @@ pub record AddsPlans (wanted : Wanted) (inside : Point → Bool) (lives : List L
     pub still : new.is_complete ≡ true → old.is_complete ≡ true
     pub whole : new.is_complete ≡ true → (x : Point) → inside x ≡ true
         → list_any (is_missed_at wanted new.keys.keys x) lives ≡ false
-    pub another : AllByRecursion (IsAnothers wanted) old.keys.keys
-        → AllByRecursion (IsAnothers wanted) new.keys.keys
+    pub another : AllByRecursion (IsNotOwnPlan wanted) old.keys.keys
+        → AllByRecursion (IsNotOwnPlan wanted) new.keys.keys
 
 -- the same plans are listed; `new` is complete only if `old` was
-pub record LooksOn (old new : NearPlans) : Type 0 where
+pub record ListsSamePlans (old new : NearPlans) : Type 0 where
   pub same : new.keys.keys ≡ old.keys.keys
   pub still : new.is_complete ≡ true → old.is_complete ≡ true
 
@@ -103,7 +103,7 @@ pub record TakesPlan (live : LiveVolume) (old new : NearPlans) : Type 0 where
   pub still : new.is_complete ≡ true → old.is_complete ≡ true
   pub listed : new.is_complete ≡ true → is_among new.keys.keys live ≡ true
   pub another : (wanted : Wanted) → is_own_volume wanted live ≡ false
-      → AllByRecursion (IsAnothers wanted) old.keys.keys → AllByRecursion (IsAnothers wanted) new.keys.keys
+      → AllByRecursion (IsNotOwnPlan wanted) old.keys.keys → AllByRecursion (IsNotOwnPlan wanted) new.keys.keys
 
 -- all wanted volumes that have a point that passes the test `inside` are of plans that are listed, and none
 -- of these is left out by `wanted`
@@ -111,4 +111,4 @@ pub record AreNearPlans (wanted : Wanted) (inside : Point → Bool) (lives : Lis
     (keys : List PlanKey) : Type 0
   where
     pub whole : (x : Point) → inside x ≡ true → list_any (is_missed_at wanted keys x) lives ≡ false
-    pub another : AllByRecursion (IsAnothers wanted) keys
+    pub another : AllByRecursion (IsNotOwnPlan wanted) keys

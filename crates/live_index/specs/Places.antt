@@ -39,10 +39,10 @@ abbrev pub AreNoFewer : Lists → Lists → Type 0
 AreNoFewer old new = (key : PlanKey) → places_in key old ≤ places_in key new
 
 -- the plan has at least one place more in `new` than in `old`
-abbrev pub IsOneMore : PlanKey → Lists → Lists → Type 0
-IsOneMore key old new = places_in key old + 1 ≤ places_in key new
+abbrev pub HasOneMore : PlanKey → Lists → Lists → Type 0
+HasOneMore key old new = places_in key old + 1 ≤ places_in key new
 
 -- each other plan than this one has as many places in `new` as in `old`, or more
-abbrev pub AreOthers : PlanKey → Lists → Lists → Type 0
-AreOthers key old new = (other : PlanKey) → is_eq (key_cmp key other) ≡ false
+abbrev pub OthersAreNoFewer : PlanKey → Lists → Lists → Type 0
+OthersAreNoFewer key old new = (other : PlanKey) → is_eq (key_cmp key other) ≡ false
     → places_in other old ≤ places_in other new

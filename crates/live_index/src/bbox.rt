@@ -53,7 +53,7 @@ impl BoundingBox {
     }
 
     // The bounding box of one volume.
-    #[tactic(auto, using(crate::proofs::FenceLemmas::fenced_alone))]
+    #[tactic(auto, using(crate::proofs::BoxLemmas::in_box_alone))]
     fn of(live: &LiveVolume) -> BoundingBox
         ensures { IsInBox result live.now }
     {

@@ -3,7 +3,7 @@
 ghost use Rattle.std.specs.Prelude.{◌≡◌, ◌≤◌, ◌+◌, ◌++◌, length, IfOk, OnOk};
 ghost use Rattle.std.specs.List.{filter};
 ghost use Rattle.desk_store.specs.Changes.{filed_by};
-ghost use Rattle.live_index.specs.Live.{AddsLivePlan, AreBrought, is_beside};
+ghost use Rattle.live_index.specs.Live.{AddsLivePlan, AreAddedBy, is_of_other_plan};
 ghost use Rattle.live_index.specs.Live as spec;
 
 use crate::volume::LiveVolume;
@@ -58,7 +58,7 @@ pub(crate) fn volumes_added_by(
     alloc: Global,
     change: &Change,
 ) -> Result<Vec<LiveVolume>, AllocError>
-    ensures { IfOk result (λ fresh. AreBrought change.now fresh.items) }
+    ensures { IfOk result (λ fresh. AreAddedBy change.now fresh.items) }
 {
     let mut fresh = Vec::new(alloc);
     if let Change::Put { operator, row } = change {
@@ -69,7 +69,7 @@ pub(crate) fn volumes_added_by(
 
 /// Removes the volumes of the operator's plan with this id from a list. The capacity stays as it is.
 pub(crate) fn remove_plan_volumes(volumes: &mut Vec<LiveVolume>, operator: &Operator, id: &PlanId)
-    ensures items { volumes.new.items ≡ filter (is_beside operator.now id.now) volumes.old.items }
+    ensures items { volumes.new.items ≡ filter (is_of_other_plan operator.now id.now) volumes.old.items }
     ensures room { volumes.new.cap ≡ volumes.old.cap }
     ensures fewer { length volumes.new.items ≤ length volumes.old.items }
 {

@@ -4,7 +4,7 @@ ghost use Rattle.std.specs.Prelude.{◌≡◌, ◌+◌, ◌-◌, ◌≤◌, ◌�
 ghost use Rattle.std.specs.List.{AllByRecursion, filter};
 ghost use Rattle.live_index.specs.Live as spec;
 ghost use Rattle.live_index.specs.Live.{AreBoundedChunks, IsInBox, RemovesPlanVolumes, IsBoundedChunk};
-ghost use Rattle.live_index.specs.Live.{chunk_has_plan, is_beside, volumes_in};
+ghost use Rattle.live_index.specs.Live.{chunk_has_plan, is_of_other_plan, volumes_in};
 ghost use Rattle.live_index.specs.Regions.{chunk_has_theirs};
 ghost use Rattle.live_index.specs.Near.{AddsPlans};
 ghost use Rattle.slab_regions.specs.SearchArea.{sought_has};
@@ -25,7 +25,7 @@ use volume4d::Slab;
 pub(crate) const FULL: usize = 64;
 
 /// How many volumes a chunk, or chunks a group, gets when an index is built, so that it has room for more.
-pub(crate) const PART: usize = 48;
+pub(crate) const INITIAL_LEN: usize = 48;
 
 /// Volumes that are close to each other, within a bounding box.
 #[derive(Drop)]
@@ -194,7 +194,7 @@ pub(crate) fn chunked(alloc: Global, lives: &[LiveVolume]) -> Result<Vec<Chunk>,
     let mut chunks = Vec::new(alloc);
     let mut rest = lives;
     while !rest.is_empty() {
-        let (part, later) = rest.split_at(rest.len().min(PART));
+        let (part, later) = rest.split_at(rest.len().min(INITIAL_LEN));
         chunks.push(Chunk::from_all(alloc, part)?)?;
         rest = later;
     }
@@ -348,7 +348,7 @@ fn drop_if_empty(chunks: &mut Vec<Chunk>, at: usize)
 /// are, and so do empty chunks.
 pub(crate) fn remove_from_all(chunks: &mut Vec<Chunk>, operator: &Operator, id: &PlanId)
     ensures same { volumes_in chunks.new.items
-        ≡ filter (is_beside operator.now id.now) (volumes_in chunks.old.items) }
+        ≡ filter (is_of_other_plan operator.now id.now) (volumes_in chunks.old.items) }
     ensures bounded { AreBoundedChunks chunks.old.items → AreBoundedChunks chunks.new.items }
 {
     let mut at = 0;

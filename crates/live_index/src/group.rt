@@ -4,14 +4,14 @@ ghost use Rattle.std.specs.Prelude.{◌≡◌, ◌∷◌, ◌++◌, [], true, �
 ghost use Rattle.std.specs.List.{AllByRecursion, filter};
 ghost use Rattle.std.specs.List.{insert as insert_at};
 ghost use Rattle.live_index.specs.Live.{AreBoundedChunks, AreBoundedGroups, IsInBox, IsBoundedGroup, RemovesPlanVolumes, count_of};
-ghost use Rattle.live_index.specs.Live.{group_has_plan, is_beside, volumes_in, volumes_under};
+ghost use Rattle.live_index.specs.Live.{group_has_plan, is_of_other_plan, volumes_in, volumes_under};
 ghost use Rattle.live_index.specs.Regions.{group_has_theirs};
 ghost use Rattle.live_index.specs.Near.{AddsPlans};
 ghost use Rattle.slab_regions.specs.SearchArea.{sought_has};
 
 use crate::bbox::BoundingBox;
 use crate::chunk as chunks;
-use crate::chunk::{Chunk, FULL, PART, chunk_with, chunked};
+use crate::chunk::{Chunk, FULL, INITIAL_LEN, chunk_with, chunked};
 use crate::near::{NearPlans, PlanKey, Wanted};
 use crate::order::Rank;
 use crate::volume::LiveVolume;
@@ -23,7 +23,7 @@ use std::slice;
 use volume4d::Slab;
 
 // How many volumes a group gets when an index is built.
-const MANY: usize = PART * PART;
+const INITIAL_VOLUMES: usize = INITIAL_LEN * INITIAL_LEN;
 
 /// Chunks that follow each other by rank, within a bounding box.
 #[derive(Drop)]
@@ -236,7 +236,7 @@ pub(crate) fn grouped(alloc: Global, lives: &[LiveVolume]) -> Result<Vec<Group>,
     let mut groups = Vec::new(alloc);
     let mut rest = lives;
     while !rest.is_empty() {
-        let (part, later) = rest.split_at(rest.len().min(MANY));
+        let (part, later) = rest.split_at(rest.len().min(INITIAL_VOLUMES));
         groups.push(Group::try_new(alloc, part)?)?;
         rest = later;
     }
@@ -331,7 +331,7 @@ fn last_at_or_before(groups: &[Group], rank: &Rank) -> usize
 pub(crate) fn remove_all(groups: &mut Vec<Group>, plan: &PlanKey, places: &[u128])
     ensures same { count_of plan.now.operator plan.now.id (volumes_under groups.old.items)
         ≤ length places.now → volumes_under groups.new.items
-        ≡ filter (is_beside plan.now.operator plan.now.id) (volumes_under groups.old.items) }
+        ≡ filter (is_of_other_plan plan.now.operator plan.now.id) (volumes_under groups.old.items) }
     ensures group_bounded { AreBoundedGroups groups.old.items → AreBoundedGroups groups.new.items }
 {
     let gone = remove_at_places(groups, plan, places);
@@ -429,7 +429,7 @@ fn drop_if_empty(groups: &mut Vec<Group>, at: usize)
 // are, and so do empty chunks and groups.
 fn remove_from_all(groups: &mut Vec<Group>, operator: &Operator, id: &PlanId)
     ensures same { volumes_under groups.new.items
-        ≡ filter (is_beside operator.now id.now) (volumes_under groups.old.items) }
+        ≡ filter (is_of_other_plan operator.now id.now) (volumes_under groups.old.items) }
     ensures group_bounded { AreBoundedGroups groups.old.items → AreBoundedGroups groups.new.items }
 {
     let mut at = 0;

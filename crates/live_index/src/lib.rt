@@ -14,5 +14,5 @@ mod volume;
 
 pub use live::{LiveIndex, LiveIndexBuilder};
 pub use near::{PlanKey, Wanted};
-pub use slab_regions::{push_clipped, whole_of};
+pub use slab_regions::{enclosing_slab, push_clipped};
 pub use volume::LiveVolume;

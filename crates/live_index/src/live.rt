@@ -6,9 +6,9 @@ ghost use Rattle.std.specs.List.Sorted.{IsStrictlySortedBy};
 ghost use Rattle.desk_store.specs.World.{Filed, World, filed_cmp};
 ghost use Rattle.desk_store.specs.Changes.{filed_by};
 ghost use Rattle.desk_store.specs.StoreChange.{changed_by};
-ghost use Rattle.live_index.specs.Live.{AreBrought, AreBoundedGroups, AreKeptOnce, ArePlaced, AreSettled};
+ghost use Rattle.live_index.specs.Live.{AreAddedBy, AreBoundedGroups, AreKeptOnce, ArePlaced, AreSettled};
 ghost use Rattle.live_index.specs.Live.{AreVolumes, HasLeft, HasRoomForVolumes};
-ghost use Rattle.live_index.specs.Live.{gathered_in, is_beside, is_of_any, stays_at};
+ghost use Rattle.live_index.specs.Live.{gathered_in, is_of_other_plan, is_of_any, stays_at};
 ghost use Rattle.live_index.specs.Live.{volumes_of, volumes_under};
 ghost use Rattle.live_index.specs.Regions.{HoldNothingBeside, has_theirs};
 ghost use Rattle.live_index.specs.Near.{AddsPlans, AreNearPlans, AreWantedPlans};
@@ -25,18 +25,18 @@ use desk_rules::operator::Operator;
 use desk_rules::plan::PlanRow;
 use desk_rules::plan_id::PlanId;
 use desk_store::Change;
-use slab_regions::{SearchArea, at_most, joined, whole_of};
+use slab_regions::{SearchArea, at_most, enclosing_slab, joined};
 use std::alloc::{AllocError, Global};
 use volume4d::Slab;
 
 // The most extents that are searched one by one for regions; more are joined into one slab.
-const APART: usize = 1 << 10;
+const MAX_REGION_EXTENTS: usize = 1 << 10;
 
 // The most extents that are compared one by one with each volume; more are joined into one slab.
-const PARTS: usize = 96;
+const MAX_SEARCHED_PARTS: usize = 96;
 
 // The most chunks that are searched if the extents are searched one by one: a tenth of a second's work.
-const LOOKS: usize = 1 << 13;
+const MAX_SEARCHES: usize = 1 << 13;
 
 /// An index of the volumes of all live plans. Most of them are in groups of chunks.
 #[derive(Drop)]
@@ -75,7 +75,7 @@ impl LiveIndex {
         ensures { IfOk result (λ regions. (w : World) → AreKeptOnce self.now w
             → HoldNothingBeside w operator.now extents.now regions.items) }
     {
-        let mut near = at_most(alloc, extents, APART)?;
+        let mut near = at_most(alloc, extents, MAX_REGION_EXTENTS)?;
         near.retain(|extent| self.has_theirs(operator, extent));
         joined(alloc, near)
     }
@@ -110,7 +110,7 @@ impl LiveIndex {
         ensures { IfOk result (λ found. IfSome found (λ keys. (w : World) → AreKeptOnce self.now w
             → AreWantedPlans w wanted.now extents.now keys.items)) }
     {
-        if PARTS < extents.len() {
+        if MAX_SEARCHED_PARTS < extents.len() {
             let apart = self.near_one_by_one(alloc, wanted, extents, room)?;
             if apart.is_some() {
                 return Ok(apart);
@@ -131,7 +131,7 @@ impl LiveIndex {
         ensures { IfOk result (λ found. IfSome found (λ keys. AreBoundedGroups self.now.groups.items
             → AreNearPlans wanted.now (slabs_have extents.now) (volumes_of self.now) keys.items)) }
     {
-        let mut near = NearPlans::new(alloc, room, LOOKS);
+        let mut near = NearPlans::new(alloc, room, MAX_SEARCHES);
         for extent in extents {
             self.add_near(&mut near, wanted, &SearchArea::one(extent))?;
             if !near.is_complete {
@@ -157,9 +157,9 @@ impl LiveIndex {
         let Some((first, others)) = extents.split_first() else {
             return Ok(None);
         };
-        let parts = at_most(alloc, extents, PARTS)?;
+        let parts = at_most(alloc, extents, MAX_SEARCHED_PARTS)?;
         let sought = SearchArea {
-            whole: whole_of(first, others),
+            whole: enclosing_slab(first, others),
             parts: &parts,
         };
         let mut near = NearPlans::new(alloc, room, usize::MAX);
@@ -202,7 +202,7 @@ impl LiveIndex {
     /// `AllocError` if memory runs out; the index has the same volumes as before then.
     pub fn prepare(&mut self, alloc: Global, change: &Change) -> Result<Vec<LiveVolume>, AllocError>
         ensures kept { (w : World) → AreKeptOnce self.old w → AreKeptOnce self.new w }
-        ensures added { IfOk result (λ fresh. AreBrought change.now fresh.items) }
+        ensures added { IfOk result (λ fresh. AreAddedBy change.now fresh.items) }
         ensures room { IfOk result (λ fresh. HasRoomForVolumes self.new (length fresh.items)) }
         ensures settled { OnOk result (AreSettled self.new) }
     {
@@ -216,7 +216,7 @@ impl LiveIndex {
     /// `fresh`, which `prepare` returned for it. It needs no allocation, and so can't fail.
     pub fn update_after(&mut self, change: &Change, fresh: &[LiveVolume])
         requires room { HasRoomForVolumes self.old (length fresh.now) }
-        requires added { AreBrought change.now fresh.now }
+        requires added { AreAddedBy change.now fresh.now }
         ensures same { ArePlaced self.old.places (volumes_under self.old.groups.items) → volumes_of self.new
             ≡ filter (stays_at change.now) (volumes_of self.old) ++ fresh.now }
         ensures kept { (w : World) → AreKeptOnce self.old w → AreKeptOnce self.new (changed_by change.now w) }
@@ -249,7 +249,7 @@ impl LiveIndex {
     // Removes the volumes of the operator's plan with this id, from the unindexed ones and from the groups,
     // and then the plan's places, at which the groups are searched.
     fn remove_plan(&mut self, operator: &Operator, id: &PlanId)
-        ensures { HasLeft (is_beside operator.now id.now) self.old self.new }
+        ensures { HasLeft (is_of_other_plan operator.now id.now) self.old self.new }
     {
         remove_plan_volumes(&mut self.unindexed, operator, id);
         let key = PlanKey {

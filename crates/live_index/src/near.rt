@@ -1,7 +1,7 @@
 //! A collector of the plans whose volumes are near extents, as long as reading them costs few rows.
 
 ghost use Rattle.std.specs.Prelude.{◌≡◌, ◌∷◌, [], true, IfOk, IfSome, OnOk};
-ghost use Rattle.live_index.specs.Near.{AddsPlans, LooksOn, TakesPlan, is_among};
+ghost use Rattle.live_index.specs.Near.{AddsPlans, ListsSamePlans, TakesPlan, is_among};
 ghost use Rattle.slab_regions.specs.SearchArea.{sought_has};
 
 use crate::volume::LiveVolume;
@@ -58,7 +58,7 @@ impl NearPlans {
 
     /// Counts a chunk that is searched. If no more may be searched, the plans aren't complete from now on.
     pub(crate) fn count_search(&mut self)
-        ensures { LooksOn self.old self.new }
+        ensures { ListsSamePlans self.old self.new }
     {
         self.is_complete = self.is_complete && self.searches_left > 0;
         self.searches_left = self.searches_left.saturating_sub(1);

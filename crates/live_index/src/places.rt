@@ -3,7 +3,7 @@
 ghost use Rattle.std.specs.Prelude.{◌≡◌, ◌≤◌, [], length, None, IsSome, IfOk, OnOk};
 ghost use Rattle.live_index.specs.Live.{ArePlaced};
 ghost use Rattle.live_index.specs.Near.{key_of};
-ghost use Rattle.live_index.specs.Places.{AreNoFewer, AreOthers, IsOneMore, list_of, places_in};
+ghost use Rattle.live_index.specs.Places.{AreNoFewer, OthersAreNoFewer, HasOneMore, list_of, places_in};
 
 use crate::near::PlanKey;
 use crate::volume::LiveVolume;
@@ -43,7 +43,7 @@ impl Places {
     /// `AllocError` if memory runs out; no place is lost then.
     pub(crate) fn add(&mut self, alloc: Global, live: &LiveVolume) -> Result<(), AllocError>
         ensures kept { AreNoFewer self.old.plans.entries self.new.plans.entries }
-        ensures added { OnOk result (IsOneMore (key_of live.now) self.old.plans.entries
+        ensures added { OnOk result (HasOneMore (key_of live.now) self.old.plans.entries
             self.new.plans.entries) }
     {
         let key = live.key();
@@ -53,7 +53,7 @@ impl Places {
 
     /// Removes all places of a plan, if it has any.
     pub(crate) fn forget(&mut self, key: &PlanKey)
-        ensures others { AreOthers key.now self.old.plans.entries self.new.plans.entries }
+        ensures others { OthersAreNoFewer key.now self.old.plans.entries self.new.plans.entries }
         ensures gone { list_of key.now self.new.plans.entries ≡ None }
     {
         if let Some(places) = self.plans.remove(key) {
@@ -80,7 +80,7 @@ fn ensure_list(alloc: Global, plans: &mut Lists, key: &PlanKey) -> Result<(), Al
 fn push(plans: &mut Lists, key: &PlanKey, place: u128) -> Result<(), AllocError>
     ensures kept { AreNoFewer plans.old.entries plans.new.entries }
     ensures added { OnOk result (IsSome (list_of key.now plans.old.entries)
-        → IsOneMore key.now plans.old.entries plans.new.entries) }
+        → HasOneMore key.now plans.old.entries plans.new.entries) }
 {
     if let Some(places) = plans.get_mut(key) {
         places.push(place)?;

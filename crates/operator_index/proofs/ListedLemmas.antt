@@ -12,7 +12,7 @@ use Rattle.std.proofs.lemmas.List.{append-nil, append_assoc}
 use Rattle.std.proofs.lemmas.Map.Lookups.{exact_bytes}
 use Rattle.desk_store.specs.World.{Filed, Listed, listed_cmp, text_cmp}
 use Rattle.operator_index.specs.declared.account.OperatorEntry.{OperatorEntry}
-use Rattle.operator_index.specs.Roll.{Accounts, AreAccountsOf, account_in, ceiling_in, listed_in, with_ceiling}
+use Rattle.operator_index.specs.Roll.{Accounts, AreAccountsOf, account_in, ceiling_in, listed_in, listed_if_enrolled}
 
 abbrev ceiling_listed : List ℕ → List Listed → Option ℕ
 ceiling_listed name ls = option_map (λ l. l.ceiling) (find (λ l. is_eq (text_cmp name l.name)) ls)
@@ -117,7 +117,7 @@ abbrev Ascend : Accounts → Type 0
 Ascend accounts = IsStrictlySortedBy text_cmp (keys_of accounts)
 
 with_above : (o p : List ℕ) (n : Option ℕ) (ls : List Listed) → text_cmp o p ≡ Less → AreAbove o ls
-    → AreAbove o (with_ceiling p n ls)
+    → AreAbove o (listed_if_enrolled p n ls)
 with_above o p None ls e h = h
 with_above o p (Some n) ls e h = (e, h)
 
@@ -134,7 +134,7 @@ listed_ascend (a ∷ accounts) s =
     go a.1.ceiling (above a.0 accounts s.0) (listed_ascend accounts s.1) where
       go : (n : Option ℕ) → AreAbove a.0 (listed_in accounts)
           → IsStrictlySortedBy listed_cmp (listed_in accounts)
-          → IsStrictlySortedBy listed_cmp (with_ceiling a.0 n (listed_in accounts))
+          → IsStrictlySortedBy listed_cmp (listed_if_enrolled a.0 n (listed_in accounts))
       go None h t = t
       go (Some n) h t = (h, t)
 
@@ -145,7 +145,7 @@ of_test true a found = refl
 of_test false a found = refl
 
 with_first : (o p : List ℕ) (n : Option ℕ) (t : Bool) (ls : List Listed) → is_eq (text_cmp o p) ≡ t
-    → AreAbove p ls → ceiling_listed o (with_ceiling p n ls) ≡ cond t n (ceiling_listed o ls)
+    → AreAbove p ls → ceiling_listed o (listed_if_enrolled p n ls) ≡ cond t n (ceiling_listed o ls)
 with_first o p None true ls e h =
     ap (λ q. ceiling_listed q ls) (same_text o p e) ∙ none_above p ls h
 with_first o p (Some n) true ls e h = ap (λ t. option_map (λ (k : Listed). k.ceiling)
@@ -173,12 +173,12 @@ listed_are ls ps accounts s h ascend =
 -- the first of the accounts that are left
 pub listed_first : (before all : List Listed) (o : List ℕ) (a : OperatorEntry) (rest : Accounts)
     → before ++ listed_in ((o, a) ∷ rest) ≡ all
-    → (before ++ with_ceiling o a.ceiling []) ++ listed_in rest ≡ all
+    → (before ++ listed_if_enrolled o a.ceiling []) ++ listed_in rest ≡ all
 unfolding listed_in
 listed_first before all o a rest so_far =
-    append_assoc before (with_ceiling o a.ceiling []) (listed_in rest)
+    append_assoc before (listed_if_enrolled o a.ceiling []) (listed_in rest)
     ∙ ap (λ ls. before ++ ls) (by_ceiling a.ceiling) ∙ so_far where
-      by_ceiling : (n : Option ℕ) → with_ceiling o n [] ++ listed_in rest ≡ with_ceiling o n (listed_in rest)
+      by_ceiling : (n : Option ℕ) → listed_if_enrolled o n [] ++ listed_in rest ≡ listed_if_enrolled o n (listed_in rest)
       by_ceiling None = refl
       by_ceiling (Some n) = refl
 

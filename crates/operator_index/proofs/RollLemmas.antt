@@ -6,7 +6,7 @@ use Rattle.std.proofs.lemmas.List.{append_assoc, drop_more, take_more, length-ap
 use Rattle.std.proofs.Math.Seq.{get_or-append_seam, set-append_seam}
 use Rattle.desk_store.specs.World.{text_cmp}
 use Rattle.operator_index.specs.declared.account.PlanState.{PlanState}
-use Rattle.operator_index.specs.Roll.{begins_with, put_state}
+use Rattle.operator_index.specs.Roll.{first_has_id_of, put_state}
 
 -- ---- the place of a plan
 
@@ -25,7 +25,7 @@ length_take (suc at) (x ∷ xs) h = let rest = length_take at xs (omega (arith, 
 -- in the place of the plan that is there
 pub put_over : (s : PlanState) (plans : List PlanState) (at : ℕ) → at ≤ length plans
     → put_state s plans ≡ take at plans ++ put_state s (drop at plans)
-    → true ≡ begins_with s (drop at plans) → set plans at s ≡ put_state s plans
+    → true ≡ first_has_id_of s (drop at plans) → set plans at s ≡ put_state s plans
 put_over s plans at within place begins =
     go (drop at plans) (sym (take_then at plans)) begins ∙ sym place where
       take_then : (n : ℕ) (xs : List PlanState) → take n xs ++ drop n xs ≡ xs
@@ -39,7 +39,7 @@ put_over s plans at within place begins =
       by_order p rest Equal e = refl
       by_order p rest Greater e = cc
 
-      go : (left : List PlanState) → plans ≡ take at plans ++ left → true ≡ begins_with s left
+      go : (left : List PlanState) → plans ≡ take at plans ++ left → true ≡ first_has_id_of s left
           → set plans at s ≡ take at plans ++ put_state s left
       go [] is e = cc
       go (p ∷ rest) is e =

@@ -32,18 +32,18 @@ state_has_id id s = is_eq (text_cmp id s.id)
 
 -- `count` of a plan, or 0 if it has the id; and the sum of these over plans: it leaves out the plan with the
 -- id
-abbrev pub kept_unless : (PlanState → ℕ) → List ℕ → PlanState → ℕ
-kept_unless count id s = cond (state_has_id id s) 0 (count s)
+abbrev pub counted_unless : (PlanState → ℕ) → List ℕ → PlanState → ℕ
+counted_unless count id s = cond (state_has_id id s) 0 (count s)
 
-abbrev pub kept_beside : (PlanState → ℕ) → List ℕ → List PlanState → ℕ
-kept_beside count id plans = sum_by (kept_unless count id) plans
+abbrev pub total_beside : (PlanState → ℕ) → List ℕ → List PlanState → ℕ
+total_beside count id plans = sum_by (counted_unless count id) plans
 
 -- the spans, and the cells, of the plans without the one with the id
-abbrev pub kept_spans_beside : List ℕ → List PlanState → ℕ
-kept_spans_beside = kept_beside (λ s. s.spans)
+abbrev pub state_spans_beside : List ℕ → List PlanState → ℕ
+state_spans_beside = total_beside (λ s. s.spans)
 
-abbrev pub kept_cells_beside : List ℕ → List PlanState → ℕ
-kept_cells_beside = kept_beside (λ s. s.cells)
+abbrev pub state_cells_beside : List ℕ → List PlanState → ℕ
+state_cells_beside = total_beside (λ s. s.cells)
 
 -- the entry of an operator, its ceiling, and what the index has of its plans: none if it has no entry
 abbrev pub account_in : List ℕ → Accounts → Option OperatorEntry
@@ -60,13 +60,13 @@ abbrev pub plans_in : List ℕ → Accounts → List PlanState
 plans_in name accounts = plans_or_none (account_in name accounts)
 
 -- an operator before others if it has a ceiling; and all operators that have one, in the order of entries
-abbrev pub with_ceiling : List ℕ → Option ℕ → List Listed → List Listed
-with_ceiling name None more = more
-with_ceiling name (Some n) more = record { name = name; ceiling = n } ∷ more
+abbrev pub listed_if_enrolled : List ℕ → Option ℕ → List Listed → List Listed
+listed_if_enrolled name None more = more
+listed_if_enrolled name (Some n) more = record { name = name; ceiling = n } ∷ more
 
 unfoldable pub listed_in : Accounts → List Listed
 listed_in [] = []
-listed_in (a ∷ accounts) = with_ceiling a.0 a.1.ceiling (listed_in accounts)
+listed_in (a ∷ accounts) = listed_if_enrolled a.0 a.1.ceiling (listed_in accounts)
 
 -- the entries have the ceilings of these operators and the states and sizes of these plans, and no others
 pub record AreAccountsOf (operators : List Listed) (plans : List Filed) (accounts : Accounts) : Type 0 where
@@ -90,11 +90,11 @@ or_else (Some n) ceiling = Some n
 -- ---- changes
 
 -- the operator whose ceiling or plans the change concerns
-abbrev pub named_by : Change → List ℕ
-named_by (Enrol operator ceiling) = operator
-named_by (Put operator row) = operator
-named_by (Close operator id) = operator
-named_by (Clear operator ids) = operator
+abbrev pub changed_operator : Change → List ℕ
+changed_operator (Enrol operator ceiling) = operator
+changed_operator (Put operator row) = operator
+changed_operator (Close operator id) = operator
+changed_operator (Clear operator ids) = operator
 
 -- the list of plans has capacity for one more
 abbrev pub HasRoomForOne : OperatorEntry → Type 0
@@ -106,7 +106,7 @@ HasRoomIn None = ⊥
 HasRoomIn (Some a) = HasRoomForOne a
 
 abbrev pub IsReadyFor : Change → OperatorIndex → Type 0
-IsReadyFor change roll = HasRoomIn (account_in (named_by change) (accounts_of roll))
+IsReadyFor change roll = HasRoomIn (account_in (changed_operator change) (accounts_of roll))
 
 -- plans ascending by id, with `s` in place of the one with its id, or inserted where its id belongs
 abbrev pub put_state : PlanState → List PlanState → List PlanState
@@ -121,8 +121,8 @@ abbrev pub close_if : List ℕ → PlanState → PlanState
 close_if id s = cond (state_has_id id s) (record s { states = closed_states s.states; spans = 0 }) s
 
 -- whether the plan has one of the ids
-abbrev pub is_state_named : List (List ℕ) → PlanState → Bool
-is_state_named ids s = list_any (λ id. state_has_id id s) ids
+abbrev pub state_has_any_id : List (List ℕ) → PlanState → Bool
+state_has_any_id ids s = list_any (λ id. state_has_id id s) ids
 
 -- the ceiling, and the plans, of the operator that a change concerns, after it
 abbrev pub ceiling_after : Change → Option ℕ → Option ℕ
@@ -135,13 +135,13 @@ abbrev pub plans_after : Change → List PlanState → List PlanState
 plans_after (Enrol operator ceiling) plans = plans
 plans_after (Put operator row) plans = put_state (state_of row) plans
 plans_after (Close operator id) plans = map (close_if id) plans
-plans_after (Clear operator ids) plans = filter (λ s. not (is_state_named ids.items s)) plans
+plans_after (Clear operator ids) plans = filter (λ s. not (state_has_any_id ids.items s)) plans
 
 -- whether there is a first plan and it has the id of `s`; and: there is none, or its id is not less
-abbrev pub begins_with : PlanState → List PlanState → Bool
-begins_with s [] = false
-begins_with s (p ∷ ps) = state_has_id s.id p
+abbrev pub first_has_id_of : PlanState → List PlanState → Bool
+first_has_id_of s [] = false
+first_has_id_of s (p ∷ ps) = state_has_id s.id p
 
-abbrev pub IsBeforeFirst : PlanState → List PlanState → Type 0
-IsBeforeFirst s [] = ⊤
-IsBeforeFirst s (p ∷ ps) = text_cmp s.id p.id ≢ Greater
+abbrev pub IsNotAfterFirst : PlanState → List PlanState → Type 0
+IsNotAfterFirst s [] = ⊤
+IsNotAfterFirst s (p ∷ ps) = text_cmp s.id p.id ≢ Greater

@@ -4,7 +4,7 @@ ghost use Rattle.std.specs.Prelude.{◌≡◌, ◌<◌, ◌≤◌, ◌+◌, ◌^
 ghost use Rattle.std.specs.List.{filter, find};
 ghost use Rattle.std.specs.Option.{option_map};
 ghost use Rattle.operator_index.specs.Roll as spec;
-ghost use Rattle.operator_index.specs.Roll.{HasRoomForOne, ceiling_after, close_if, is_state_named, kept_cells_beside, kept_spans_beside, kept_unless, or_else, plans_after, put_state, state_has_id, state_of};
+ghost use Rattle.operator_index.specs.Roll.{HasRoomForOne, ceiling_after, close_if, state_has_any_id, state_cells_beside, state_spans_beside, counted_unless, or_else, plans_after, put_state, state_has_id, state_of};
 
 use desk_rules::plan::{PlanRow, States};
 use desk_rules::plan_id::PlanId;
@@ -44,7 +44,7 @@ impl PlanState {
 
     // Whether the plan has one of these ids.
     fn has_any_id(&self, ids: &[PlanId]) -> bool
-        ensures { result ≡ spec.is_state_named ids.now self.now }
+        ensures { result ≡ spec.state_has_any_id ids.now self.now }
     {
         ids.iter().any(|id| self.has_id(id))
     }
@@ -70,8 +70,8 @@ impl PlanState {
 
     // The sizes of the plan, or no spans and no cells if it has this id.
     fn sizes_unless(&self, id: &PlanId) -> Sizes
-        ensures spans { result.spans ≡ kept_unless (λ s. s.spans) id.now self.now }
-        ensures cells { result.cells ≡ kept_unless (λ s. s.cells) id.now self.now }
+        ensures spans { result.spans ≡ counted_unless (λ s. s.spans) id.now self.now }
+        ensures cells { result.cells ≡ counted_unless (λ s. s.cells) id.now self.now }
     {
         if self.has_id(id) {
             return Sizes::none();
@@ -104,10 +104,10 @@ impl OperatorEntry {
     /// The sizes of the operator's plans without the one with this id. A number that exceeds 32 bits becomes
     /// `u32::MAX`.
     pub(crate) fn sizes_beside(&self, id: &PlanId) -> Sizes
-        ensures spans { kept_spans_beside id.now self.now.plans.items < 2 ^ 32
-            → result.spans ≡ kept_spans_beside id.now self.now.plans.items }
-        ensures cells { kept_cells_beside id.now self.now.plans.items < 2 ^ 32
-            → result.cells ≡ kept_cells_beside id.now self.now.plans.items }
+        ensures spans { state_spans_beside id.now self.now.plans.items < 2 ^ 32
+            → result.spans ≡ state_spans_beside id.now self.now.plans.items }
+        ensures cells { state_cells_beside id.now self.now.plans.items < 2 ^ 32
+            → result.cells ≡ state_cells_beside id.now self.now.plans.items }
     {
         sizes_of(&self.plans, id)
     }
@@ -167,10 +167,10 @@ impl OperatorEntry {
 
 // The sizes of `plans` without the one with this id. A number that exceeds 32 bits becomes `u32::MAX`.
 fn sizes_of(plans: &[PlanState], id: &PlanId) -> Sizes
-    ensures spans { kept_spans_beside id.now plans.now < 2 ^ 32
-        → result.spans ≡ kept_spans_beside id.now plans.now }
-    ensures cells { kept_cells_beside id.now plans.now < 2 ^ 32
-        → result.cells ≡ kept_cells_beside id.now plans.now }
+    ensures spans { state_spans_beside id.now plans.now < 2 ^ 32
+        → result.spans ≡ state_spans_beside id.now plans.now }
+    ensures cells { state_cells_beside id.now plans.now < 2 ^ 32
+        → result.cells ≡ state_cells_beside id.now plans.now }
 {
     let mut sizes = Sizes::none();
     for plan in plans {
@@ -201,7 +201,7 @@ fn place_of(plans: &[PlanState], state: &PlanState) -> usize
     ensures within { result ≤ length plans.now }
     ensures place { put_state state.now plans.now
         ≡ take result plans.now ++ put_state state.now (drop result plans.now) }
-    ensures next { spec.IsBeforeFirst state.now (drop result plans.now) }
+    ensures next { spec.IsNotAfterFirst state.now (drop result plans.now) }
 {
     let mut at = 0;
     while at < plans.len() && state.id.cmp(&plans[at].id) == Ordering::Greater {
@@ -212,7 +212,7 @@ fn place_of(plans: &[PlanState], state: &PlanState) -> usize
 
 // Whether there is a plan at the index `at` and it has the id of `state`.
 fn is_at(plans: &[PlanState], at: usize, state: &PlanState) -> bool
-    ensures { result ≡ spec.begins_with state.now (drop at plans.now) }
+    ensures { result ≡ spec.first_has_id_of state.now (drop at plans.now) }
 {
     match plans.get(at) {
         Some(plan) => plan.has_id(&state.id),
@@ -233,7 +233,7 @@ fn close(plans: &mut Vec<PlanState>, id: &PlanId)
 
 // Removes the plans with these ids. The others keep their order.
 fn clear(plans: &mut Vec<PlanState>, ids: &[PlanId])
-    ensures { plans.new.items ≡ filter (λ s. not (is_state_named ids.now s)) plans.old.items }
+    ensures { plans.new.items ≡ filter (λ s. not (state_has_any_id ids.now s)) plans.old.items }
 {
     plans.retain(|plan| !plan.has_any_id(ids));
 }

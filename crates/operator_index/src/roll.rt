@@ -8,7 +8,7 @@ ghost use Rattle.desk_store.specs.World.{Filed, Listed, World, ceiling_of, liste
 ghost use Rattle.desk_store.specs.Changes.{filed_by};
 ghost use Rattle.desk_store.specs.StoreChange.{changed_by};
 ghost use Rattle.operator_index.specs.Roll as spec;
-ghost use Rattle.operator_index.specs.Roll.{AreAccountsOf, HasRoomIn, IsReadyFor, IsIndexOf, account_in, accounts_of, with_ceiling};
+ghost use Rattle.operator_index.specs.Roll.{AreAccountsOf, HasRoomIn, IsReadyFor, IsIndexOf, account_in, accounts_of, listed_if_enrolled};
 
 use crate::account::OperatorEntry;
 use crate::listed::ListedOperator;
@@ -105,7 +105,7 @@ impl OperatorIndex {
         ensures kept { (w : World) → IsIndexOf w self.old → IsIndexOf w self.new }
         ensures ready { OnOk result (IsReadyFor change.now self.new) }
     {
-        let operator = named_by(change);
+        let operator = changed_operator(change);
         ensure_account(alloc, &mut self.accounts, operator)?;
         make_room(&mut self.accounts, operator)
     }
@@ -115,7 +115,7 @@ impl OperatorIndex {
         requires { IsReadyFor change.now self.old }
         ensures { (w : World) → IsIndexOf w self.old → IsIndexOf (changed_by change.now w) self.new }
     {
-        if let Some(account) = self.accounts.get_mut(named_by(change)) {
+        if let Some(account) = self.accounts.get_mut(changed_operator(change)) {
             account.apply_change(change);
         }
     }
@@ -180,7 +180,7 @@ fn push_listed(
     operator: &Operator,
     ceiling: Option<u32>,
 ) -> Result<(), AllocError>
-    ensures { OnOk result (listed.new.items ≡ listed.old.items ++ with_ceiling operator.now ceiling []) }
+    ensures { OnOk result (listed.new.items ≡ listed.old.items ++ listed_if_enrolled operator.now ceiling []) }
 {
     if let Some(ceiling) = ceiling {
         listed.push(ListedOperator {
@@ -236,8 +236,8 @@ fn make_room(accounts: &mut Accounts, operator: &Operator) -> Result<(), AllocEr
 }
 
 // The operator whose ceiling or plans a change concerns.
-fn named_by(change: &Change) -> &Operator
-    ensures { result.now ≡ spec.named_by change.now }
+fn changed_operator(change: &Change) -> &Operator
+    ensures { result.now ≡ spec.changed_operator change.now }
 {
     match change {
         Change::Enrol { operator, .. } => operator,

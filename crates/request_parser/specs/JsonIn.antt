@@ -16,11 +16,11 @@ abbrev pub text_at : List ℕ → Data → Option (List ℕ)
 text_at key d = option_and_then as_str (get key d)
 
 -- a value, if it is an integer that fits an `i64`, and such a member of an object
-abbrev pub whole_of : Data → Option ℤ
-whole_of d = option_and_then as_i64 (as_number d)
+abbrev pub integer_in : Data → Option ℤ
+integer_in d = option_and_then as_i64 (as_number d)
 
-abbrev pub whole_at : List ℕ → Data → Option ℤ
-whole_at key d = option_and_then whole_of (get key d)
+abbrev pub integer_at : List ℕ → Data → Option ℤ
+integer_at key d = option_and_then integer_in (get key d)
 
 -- the member `key` of an object, if it is an array
 abbrev pub array_at : List ℕ → Data → Option Items

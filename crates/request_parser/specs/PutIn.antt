@@ -13,7 +13,7 @@ use Rattle.serde_json.specs.Data.{Data}
 use Rattle.serde_json.specs.Find.{get, as_object}
 use Rattle.request_parser.specs.Readings.{Reading, or_fault, or_met}
 use Rattle.request_parser.specs.Words.{value_beside}
-use Rattle.request_parser.specs.JsonIn.{array_at, body_value, present, text_at, whole_of}
+use Rattle.request_parser.specs.JsonIn.{array_at, body_value, present, text_at, integer_in}
 use Rattle.request_parser.specs.VolumeIn.{area_of}
 use Rattle.request_parser.specs.declared.wire_fault.WireFault.TheVariants.{BadMember}
 
@@ -69,7 +69,7 @@ priority_number (negsuc n) = None
 -- the priority in the member `priority`: 0 if there is no such member
 abbrev pub priority_or_zero : Option Data → Reading ℕ
 priority_or_zero None = Ok 0
-priority_or_zero (Some d) = or_fault (option_and_then priority_number (whole_of d)) BadMember Ok
+priority_or_zero (Some d) = or_fault (option_and_then priority_number (integer_in d)) BadMember Ok
 
 -- the priority in the member `astm_f3548_21`, which has to be an object: 0 if there is no such member
 abbrev pub priority_by : Option Data → Reading ℕ

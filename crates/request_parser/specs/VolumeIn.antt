@@ -15,7 +15,7 @@ use Rattle.volume4d.specs.Shape.{Shape, cells, rectangle, is_footprint}
 use Rattle.volume4d.specs.Volume.{Block}
 use Rattle.request_parser.specs.Readings.{Reading, guard, or_fault, or_met}
 use Rattle.request_parser.specs.Times.{start_of, end_of}
-use Rattle.request_parser.specs.JsonIn.{each, present, text_at, whole_at}
+use Rattle.request_parser.specs.JsonIn.{each, present, text_at, integer_at}
 use Rattle.request_parser.specs.declared.wire_fault.WireFault.{WireFault}
 use Rattle.request_parser.specs.declared.wire_fault.WireFault.TheVariants.{BadVolume, TooManyCells}
 
@@ -42,8 +42,8 @@ end_at d = option_and_then end_of (time_at (codes "time_end") d)
 -- the window of the volume `d`: the altitudes are members of `shape`, its member `volume`, the times its own
 unfoldable pub window_of : Data → Data → Reading WindowParts
 window_of d shape =
-    or_fault (whole_at (codes "altitude_lower") shape) BadVolume λ lower.
-    or_fault (whole_at (codes "altitude_upper") shape) BadVolume λ upper.
+    or_fault (integer_at (codes "altitude_lower") shape) BadVolume λ lower.
+    or_fault (integer_at (codes "altitude_upper") shape) BadVolume λ upper.
     or_fault (start_at d) BadVolume λ start.
     or_fault (end_at d) BadVolume λ end.
     or_fault (result_ok (window_or_fault
@@ -63,7 +63,7 @@ natural (pos n) = Some n
 natural (negsuc n) = None
 
 abbrev pub natural_at : List ℕ → Data → Option ℕ
-natural_at key d = option_and_then natural (whole_at key d)
+natural_at key d = option_and_then natural (integer_at key d)
 
 -- a rectangle: its face, its coordinates and its level
 unfoldable pub rectangle_of : Data → Reading RectParts

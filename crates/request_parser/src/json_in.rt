@@ -29,8 +29,8 @@ pub fn text_at<'a>(value: &'a Value, key: &str) -> Option<&'a str>
 }
 
 /// The member `key` of `value`, if `value` is an object and the member an integer that fits an `i64`.
-pub fn whole_at(value: &Value, key: &str) -> Option<i64>
-    ensures { result ≡ spec.whole_at key.now (view value.now) }
+pub fn integer_at(value: &Value, key: &str) -> Option<i64>
+    ensures { result ≡ spec.integer_at key.now (view value.now) }
 {
     value.get(key)?.as_i64()
 }

@@ -2,7 +2,7 @@
 ghost use Rattle.std.specs.Prelude.{◌≡◌, option_and_then};
 ghost use Rattle.serde_json.specs.View.{view};
 ghost use Rattle.request_parser.specs.Readings.{GivesIfRoom};
-ghost use Rattle.request_parser.specs.JsonIn.{whole_of};
+ghost use Rattle.request_parser.specs.JsonIn.{integer_in};
 ghost use Rattle.request_parser.specs.PutIn as spec;
 
 use crate::json_in::{array_at, non_null_at, read_json, text_at};
@@ -73,7 +73,7 @@ fn read_priority(plan: &Value) -> Result<u32, WireFault>
 
 // The priority that `value` is: an integer from 0 to `MAX_PRIORITY`. None for every other value.
 fn read_priority_number(value: &Value) -> Option<u32>
-    ensures { result ≡ option_and_then spec.priority_number (whole_of (view value.now)) }
+    ensures { result ≡ option_and_then spec.priority_number (integer_in (view value.now)) }
 {
     let priority = u32::try_from(value.as_i64()?).ok()?;
     (priority <= MAX_PRIORITY).then_some(priority)

@@ -11,7 +11,7 @@ ghost use Rattle.request_parser.specs.Readings.{GivesIfRoom};
 ghost use Rattle.request_parser.specs.JsonIn.{each};
 ghost use Rattle.request_parser.specs.VolumeIn as spec;
 
-use crate::json_in::{non_null_at, text_at, whole_at};
+use crate::json_in::{integer_at, non_null_at, text_at};
 use crate::times::{parse_end, parse_start};
 use crate::wire_fault::{ReadError, WireFault};
 use s2_cellid::CellId;
@@ -150,7 +150,7 @@ fn checked_rect(
 fn natural_at(value: &Value, key: &str) -> Option<u64>
     ensures { result ≡ spec.natural_at key.now (view value.now) }
 {
-    u64::try_from(whole_at(value, key)?).ok()
+    u64::try_from(integer_at(value, key)?).ok()
 }
 
 // Reads a cell from each of `items`, S2 tokens, in their order, up to the first fault.
@@ -180,8 +180,8 @@ fn read_cell(value: &Value) -> Result<CellId, WireFault>
 fn read_window(value: &Value, shape: &Value) -> Result<Window, WireFault>
     ensures { result ≡ spec.window_of (view value.now) (view shape.now) }
 {
-    let lower = whole_at(shape, "altitude_lower").ok_or(WireFault::BadVolume)?;
-    let upper = whole_at(shape, "altitude_upper").ok_or(WireFault::BadVolume)?;
+    let lower = integer_at(shape, "altitude_lower").ok_or(WireFault::BadVolume)?;
+    let upper = integer_at(shape, "altitude_upper").ok_or(WireFault::BadVolume)?;
     let start = read_start(value).ok_or(WireFault::BadVolume)?;
     let end = read_end(value).ok_or(WireFault::BadVolume)?;
     checked_window(lower, upper, start, end).ok_or(WireFault::BadVolume)

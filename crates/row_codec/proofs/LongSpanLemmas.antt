@@ -6,7 +6,7 @@ use Rattle.std.proofs.lemmas.List.Folds.{list_any_more}
 use Rattle.s2_cover.specs.declared.spans.Span.{Span}
 use Rattle.volume4d.specs.declared.slab.Slab.{Slab}
 use Rattle.row_codec.specs.declared.span_bounds.SpanBounds.{SpanBounds}
-use Rattle.row_codec.specs.SpanBounds.{AreWhole, IsAmong, IsWithinExtent, Keeps, begins_in, takes_in}
+use Rattle.row_codec.specs.SpanBounds.{FindAll, IsAmong, IsWithinExtent, Keeps, begins_in, takes_in}
 
 or_left : (a b : Bool) → a ≡ true → (a || b) ≡ true
 or_left a b h = ap (λ c. c || b) h
@@ -52,13 +52,13 @@ keeps_long_spans old new same more span known = elim known [
 
 module _ (extent : Slab) (low : ℕ) where
   abbrev pub AreFor : Option Span → List Span → Type 0
-  AreFor long_span questions =
-      AreWhole extent (λ span. IsTrue (takes_in span long_span) × (span.first < low)) questions
+  AreFor long_span queries =
+      FindAll extent (λ span. IsTrue (takes_in span long_span) × (span.first < low)) queries
 
   -- the queries for some of the long spans that are kept
-  pub record AreAskedFor (long_spans : List (Option Span)) (questions : List Span) : Type 0 where
-    pub whole : AreWhole extent (λ span. IsAmong long_spans span × (span.first < low)) questions
-    pub within : AllByRecursion (IsWithinExtent extent) questions
+  pub record AreAskedFor (long_spans : List (Option Span)) (queries : List Span) : Type 0 where
+    pub whole : FindAll extent (λ span. IsAmong long_spans span × (span.first < low)) queries
+    pub within : AllByRecursion (IsWithinExtent extent) queries
 
   pub asked_on : (long_spans : List (Option Span)) (i : ℕ) (d : Option Span) (old new : List Span)
       → i < length long_spans → AreAskedFor (take i long_spans) old → AreFor (get_or long_spans i d) new

@@ -36,7 +36,7 @@ pub record ArePlanRows (ps : List Filed) (head_rows volumes : List Row) : Type 0
   pub areas : volumes ≡ volume_rows ps
 
 -- the operator of each plan is among `ls`, and no operator has more than `max_plans` plans
-pub record AreShared (ls : List Listed) (ps : List Filed) : Type 0 where
+pub record HaveOperatorsAndRoom (ls : List Listed) (ps : List Filed) : Type 0 where
   pub listed : AllByRecursion (IsListed (record { operators = ls; plans = ps })) ps
   pub few : (operator : List ℕ) → length (rows_by operator ps) ≤ max_plans
 

@@ -63,8 +63,8 @@ IsNoHead row = (p : PlanRow) → IsId p.id → p.priority < 2 ^ 32 → ¬ IsHead
 
 -- a row is refused: it begins a plan, but the plan before it has no area, or the row is no plan's; or it is a
 -- later row, but no plan was begun; or it has no valid volume
-abbrev pub IsUngathered : Option PlanHead → List Block → Row → Type 0
-IsUngathered head volumes row =
+abbrev pub IsRefusedRow : Option PlanHead → List Block → Row → Type 0
+IsRefusedRow head volumes row =
     ((is_later row ≡ false) × (HasNoArea head volumes ⊎ IsNoHead row))
     ⊎ (((is_later row ≡ true) × (head ≡ None)) ⊎ ((v : Block) → IsValidVolume v → ¬ IsVolumeAt row 6 v))
 

@@ -9,8 +9,8 @@ use Rattle.volume4d.specs.declared.slab.Slab.{Slab}
 use Rattle.volume4d.specs.declared.slab.Held.{Held}
 use Rattle.volume4d.specs.Point.{Point}
 use Rattle.volume4d.specs.Slab.{slabs_have, top_held}
-use Rattle.desk_sql.specs.Rows.{held_columns, is_at_least, is_reached, is_wanted}
-use Rattle.desk_sql.specs.Others.{is_others_from, is_plans}
+use Rattle.desk_sql.specs.Rows.{columns_from_first, is_at_least, passes_filter, is_rival_from}
+use Rattle.desk_sql.specs.Others.{is_others_from, is_plan_span}
 use Rattle.desk_sql.specs.declared.reading.rivals.SpanFilter.{SpanFilter}
 use Rattle.live_index.specs.declared.near.PlanKey.{PlanKey}
 use Rattle.live_index.specs.declared.near.Wanted.{Wanted}
@@ -64,39 +64,39 @@ span_filter_of extent least = record {
 
 -- and that begin at the last leaf of a query or before
 abbrev pub span_filter_from : Span → Slab → ℕ → SpanFilter
-span_filter_from question extent least = record (span_filter_of extent least) { last = pos question.last }
+span_filter_from query extent least = record (span_filter_of extent least) { last = pos query.last }
 
 -- a row of `span2` is of another plan than the operator's plan with this id, or, if there is no id, of
 -- another operator's plan; it passes the filter, and begins at a leaf position or later
 abbrev pub is_another_from : List ℕ → Option (List ℕ) → SpanFilter → ℤ → Row → Bool
 is_another_from operator None = is_others_from operator
-is_another_from operator (Some id) = is_wanted operator (id_text id)
+is_another_from operator (Some id) = is_rival_from operator (id_text id)
 
 -- a query for the spans that are wanted near an extent finds this row of `span2`
 abbrev pub is_asked : Wanted → Slab → Span → Row → Bool
-is_asked wanted extent question =
-    is_another_from wanted.operator wanted.id (span_filter_from question extent wanted.least) (pos question.first)
+is_asked wanted extent query =
+    is_another_from wanted.operator wanted.id (span_filter_from query extent wanted.least) (pos query.first)
 
 -- the query for the spans of a plan finds this row of `span2`
 abbrev pub is_asked_of_plan : ℕ → Slab → PlanKey → Row → Bool
-is_asked_of_plan least extent key = is_plans key.operator (id_text key.id) (span_filter_of extent least)
+is_asked_of_plan least extent key = is_plan_span key.operator (id_text key.id) (span_filter_of extent least)
 
 -- a query for the spans that pass a test finds this row of `span2`
 abbrev pub is_asked_if : (Row → Bool) → ℕ → Slab → Span → Row → Bool
-is_asked_if passes least extent question row =
-    is_at_least (column row 3) (pos question.first)
-    && (is_reached (span_filter_from question extent least) row && passes row)
+is_asked_if passes least extent query row =
+    is_at_least (column row 3) (pos query.first)
+    && (passes_filter (span_filter_from query extent least) row && passes row)
 
 -- one held slab for each of these rows of spans that passes the test `wanted`, in some order
 abbrev pub HaveTaken : (Row → Bool) → List Row → List Held → Type 0
 HaveTaken wanted spans helds =
-    (rows : List Row) × IsPermutation (map held_columns (filter wanted spans)) rows × HasTakenHelds helds rows
+    (rows : List Row) × IsPermutation (map columns_from_first (filter wanted spans)) rows × HasTakenHelds helds rows
 
 -- one held slab for each row that each of the queries finds, in some order
 abbrev pub HaveTakenAll : {Q : Type 0} → (Q → Row → Bool) → List Q → List Row → List Held → Type 0
-HaveTakenAll asked questions spans helds =
+HaveTakenAll asked queries spans helds =
     (rows : List Row)
-    × IsPermutation (flat_map (λ question. map held_columns (filter (asked question) spans)) questions) rows
+    × IsPermutation (flat_map (λ query. map columns_from_first (filter (asked query) spans)) queries) rows
     × HasTakenHelds helds rows
 
 -- at each point of an extent, the greatest priority of these slabs is that of the wanted plans there
@@ -110,5 +110,5 @@ AreWantedNear w wanted extents helds = (x : Point) → slabs_have extents x ≡ 
     → top_held helds x ≡ at_least wanted.least (held_but w wanted.operator wanted.id x)
 
 -- how many leaves the ranges of all queries have
-abbrev pub leaves_begun : List Span → ℕ
-leaves_begun questions = sum_by (λ q. q.last - q.first + 1) questions
+abbrev pub query_leaf_count : List Span → ℕ
+query_leaf_count queries = sum_by (λ q. q.last - q.first + 1) queries

@@ -43,17 +43,17 @@ IsLow low extent IsOne =
 
 -- a span begins at one of the leaves of a query
 abbrev pub begins_in : Span → Span → Bool
-begins_in span question = nat_le question.first span.first && nat_le span.first question.last
+begins_in span query = nat_le query.first span.first && nat_le span.first query.last
 
 -- the queries find each span for which `IsOne` holds and that overlaps an extent
-abbrev pub AreWhole : Slab → (Span → Type 0) → List Span → Type 0
-AreWhole extent IsOne questions =
+abbrev pub FindAll : Slab → (Span → Type 0) → List Span → Type 0
+FindAll extent IsOne queries =
     (span : Span) → IsOne span → extent.first ≤ span.last → span.first ≤ extent.last
-    → IsTrue (list_any (begins_in span) questions)
+    → IsTrue (list_any (begins_in span) queries)
 
 -- a query begins at a leaf position, and ends at the last leaf of an extent or before
 abbrev pub IsWithinExtent : Slab → Span → Type 0
-IsWithinExtent extent question = (question.first < 6 * 2 ^ 60) × (question.last ≤ extent.last)
+IsWithinExtent extent query = (query.first < 6 * 2 ^ 60) × (query.last ≤ extent.last)
 
 -- a place of the list is free, or its long span begins at the leaf `first`
 abbrev pub BeginsOrNone : ℕ → Option Span → Type 0

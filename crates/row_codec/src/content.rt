@@ -9,7 +9,7 @@ ghost use Rattle.desk_store.specs.World as world;
 ghost use Rattle.desk_store.specs.World.{World, Listed, Filed, listed_cmp, filed_cmp};
 ghost use Rattle.row_codec.specs.Tables.{id_text, row_of_plan};
 ghost use Rattle.row_codec.specs.ContentRows as spec;
-ghost use Rattle.row_codec.specs.ContentRows.{AreOperatorRows, ArePlanRows, AreShared};
+ghost use Rattle.row_codec.specs.ContentRows.{AreOperatorRows, ArePlanRows, HaveOperatorsAndRoom};
 ghost use Rattle.row_codec.specs.ContentRows.{is_below_first};
 
 use crate::exact::{FiledPlan, RowFault, filed_in, listed_in};
@@ -239,7 +239,7 @@ fn key_is_below(one: &FiledPlan, others: &[FiledPlan]) -> bool
 pub fn have_operators_and_room(operators: &[ListedOperator], plans: &[FiledPlan]) -> bool
     requires names { IsStrictlySortedBy listed_cmp operators.now }
     requires keys { IsStrictlySortedBy filed_cmp plans.now }
-    ensures { IsTrue result ↔ AreShared operators.now plans.now }
+    ensures { IsTrue result ↔ HaveOperatorsAndRoom operators.now plans.now }
 {
     let mut others = operators;
     let mut left = plans;

@@ -4,7 +4,7 @@ ghost use Rattle.std.specs.Prelude.{◌≡◌, [], length, IfOk, OnOk};
 ghost use Rattle.std.specs.List.Sorted.{IsStrictlySortedBy};
 ghost use Rattle.desk_store.specs.World.{World, filed_cmp};
 ghost use Rattle.desk_store.specs.StoreChange.{changed_by};
-ghost use Rattle.live_index.specs.Live.{AreBrought, AreKeptOnce, HasRoomForVolumes};
+ghost use Rattle.live_index.specs.Live.{AreAddedBy, AreKeptOnce, HasRoomForVolumes};
 ghost use Rattle.operator_index.specs.Roll.{AreAccountsOf, IsReadyFor, accounts_of};
 ghost use Rattle.row_codec.specs.Known.{Knows};
 ghost use Rattle.row_codec.specs.SpanBounds.{BringsKnown, Keeps};
@@ -45,7 +45,7 @@ impl MemoryIndex {
     /// `AllocError` if memory runs out. The indexes are still those of the same state.
     pub fn prepare(&mut self, alloc: Global, change: &Change) -> Result<Vec<LiveVolume>, AllocError>
         ensures kept { (w : World) → Knows self.old w → Knows self.new w }
-        ensures added { IfOk result (λ fresh. AreBrought change.now fresh.items) }
+        ensures added { IfOk result (λ fresh. AreAddedBy change.now fresh.items) }
         ensures room { IfOk result (λ fresh. HasRoomForVolumes self.new.live (length fresh.items)) }
         ensures ready { OnOk result (IsReadyFor change.now self.new.roll) }
     {
@@ -57,7 +57,7 @@ impl MemoryIndex {
     /// bounds after the change, and `fresh` are the live volumes that it adds, as `prepare` returned them.
     pub fn update_after(&mut self, change: &Change, span_bounds: SpanBounds, fresh: &[LiveVolume])
         requires room { HasRoomForVolumes self.old.live (length fresh.now) }
-        requires added { AreBrought change.now fresh.now }
+        requires added { AreAddedBy change.now fresh.now }
         requires ready { IsReadyFor change.now self.old.roll }
         requires kept { Keeps self.old.span_bounds span_bounds }
         requires brings { BringsKnown span_bounds change.now }

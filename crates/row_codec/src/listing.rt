@@ -8,7 +8,7 @@ ghost use Rattle.desk_store.specs.World.{Filed};
 ghost use Rattle.desk_store.specs.Content.{IsId, IsPlan};
 ghost use Rattle.row_codec.specs.RowsRead as spec;
 ghost use Rattle.row_codec.specs.RowsRead.{IsHead, listing_rows};
-ghost use Rattle.row_codec.specs.Gathering.{Leads, HasCollected, HasNoArea, IsNoHead, IsUngathered, closed_plans, plan_with};
+ghost use Rattle.row_codec.specs.Gathering.{Leads, HasCollected, HasNoArea, IsNoHead, IsRefusedRow, closed_plans, plan_with};
 
 use crate::values::{PlanHead, head_in, volume_in};
 use desk_rules::plan::PlanRow;
@@ -86,7 +86,7 @@ impl PlanCollector {
             → Leads self.old.plans.items self.old.head self.old.volumes.items (row.now ∷ left) ps
             → Leads self.new.plans.items self.new.head self.new.volumes.items left ps) }
         ensures refused { IfErr result (λ e. e ≡ StoreFault.Store →
-            IsUngathered self.old.head self.old.volumes.items row.now) }
+            IsRefusedRow self.old.head self.old.volumes.items row.now) }
     {
         if !is_later(row) {
             self.begin_plan(row)?;

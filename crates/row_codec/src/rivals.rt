@@ -81,12 +81,12 @@ pub fn span_filter_of(extent: &Slab, least: u32) -> SpanFilter
 
 /// As `span_filter_of`, but only the spans that begin at the last leaf of the range `query` or before.
 /// Where the range begins is no part of the filter: a query takes it as a parameter of its own.
-pub fn span_filter_from(question: &Span, extent: &Slab, least: u32) -> SpanFilter
-    requires { question.now.last < 6 * 2 ^ 60 }
-    ensures { result ≡ spec.span_filter_from question.now extent.now least }
+pub fn span_filter_from(query: &Span, extent: &Slab, least: u32) -> SpanFilter
+    requires { query.now.last < 6 * 2 ^ 60 }
+    ensures { result ≡ spec.span_filter_from query.now extent.now least }
 {
     let mut filter = span_filter_of(extent, least);
-    filter.last = question.last as i64;
+    filter.last = query.last as i64;
     filter
 }
 

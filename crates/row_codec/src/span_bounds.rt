@@ -4,7 +4,7 @@
 ghost use Rattle.std.specs.Prelude.{◌≡◌, ◌≤◌, ◌<◌, ◌≤ℤ◌, ◌↔◌, ℕ, pos, IfOk, IfSome, IsPermutation, IsTrue, OnOk, Some, length};
 ghost use Rattle.std.specs.List.{AllByRecursion, list_any};
 ghost use Rattle.s2_cover.specs.declared.spans.Span.{Span as Range};
-ghost use Rattle.row_codec.specs.SpanBounds.{AreWhole, BeginsOrNone, IsAmong, IsKnown, IsKnownBetween, IsLow, IsRoomFor, IsBoundedBy};
+ghost use Rattle.row_codec.specs.SpanBounds.{FindAll, BeginsOrNone, IsAmong, IsKnown, IsKnownBetween, IsLow, IsRoomFor, IsBoundedBy};
 ghost use Rattle.row_codec.specs.SpanBounds.{IsWithinExtent, Keeps, begins_in, takes_in};
 
 use s2_cover::Span;
@@ -62,23 +62,23 @@ impl SpanBounds {
     /// # Errors
     ///
     /// `AllocError` if memory runs out.
-    pub fn questions(&self, alloc: Global, extent: &Slab) -> Result<Vec<Span>, AllocError>
-        ensures complete { IfOk result (λ questions.
-            AreWhole extent.now (IsKnown self.now) questions.items) }
-        ensures within { IfOk result (λ questions.
-            AllByRecursion (IsWithinExtent extent.now) questions.items) }
-        ensures not_empty { IfOk result (λ questions. 0 < length questions.items) }
+    pub fn queries(&self, alloc: Global, extent: &Slab) -> Result<Vec<Span>, AllocError>
+        ensures complete { IfOk result (λ queries.
+            FindAll extent.now (IsKnown self.now) queries.items) }
+        ensures within { IfOk result (λ queries.
+            AllByRecursion (IsWithinExtent extent.now) queries.items) }
+        ensures not_empty { IfOk result (λ queries. 0 < length queries.items) }
     {
         let low = self.low(extent);
-        let mut questions = Vec::new(alloc);
+        let mut queries = Vec::new(alloc);
         for long_span in &self.long_spans {
-            push_query(long_span, low, extent, &mut questions)?;
+            push_query(long_span, low, extent, &mut queries)?;
         }
-        questions.push(Span {
+        queries.push(Span {
             first: low,
             last: extent.last,
         })?;
-        Ok(questions)
+        Ok(queries)
     }
 
     // The least leaf position at which a span that isn't a long one may begin if it overlaps `extent`.
@@ -178,19 +178,19 @@ fn push_query(
     long_span: &Option<Span>,
     low: u64,
     extent: &Slab,
-    questions: &mut Vec<Span>,
+    queries: &mut Vec<Span>,
 ) -> Result<(), AllocError>
     requires { low ≤ extent.now.first }
-    ensures asked { OnOk result (AreWhole extent.now
-        (λ span. IsTrue (takes_in span long_span.now) × (span.first < low)) questions.new.items) }
-    ensures kept { OnOk result ((span : Range) → IsTrue (list_any (begins_in span) questions.old.items)
-        → IsTrue (list_any (begins_in span) questions.new.items)) }
-    ensures within { OnOk result (AllByRecursion (IsWithinExtent extent.now) questions.old.items
-        → AllByRecursion (IsWithinExtent extent.now) questions.new.items) }
+    ensures asked { OnOk result (FindAll extent.now
+        (λ span. IsTrue (takes_in span long_span.now) × (span.first < low)) queries.new.items) }
+    ensures kept { OnOk result ((span : Range) → IsTrue (list_any (begins_in span) queries.old.items)
+        → IsTrue (list_any (begins_in span) queries.new.items)) }
+    ensures within { OnOk result (AllByRecursion (IsWithinExtent extent.now) queries.old.items
+        → AllByRecursion (IsWithinExtent extent.now) queries.new.items) }
 {
     match long_span {
         Some(long_span) if needs_own_query(long_span, low, extent) => {
-            questions.push(Span {
+            queries.push(Span {
                 first: long_span.first,
                 last: long_span.first,
             })?;

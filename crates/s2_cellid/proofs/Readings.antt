@@ -5,7 +5,7 @@ use Rattle.std.specs.Option.{SomeIff, ok_or}
 use Rattle.std.proofs.lemmas.Bool.Decides.{nat_tests}
 use Rattle.s2_cellid.specs.Cell.{is_cell_id, IsCellId}
 use Rattle.s2_cellid.specs.Digits.{is_hex}
-use Rattle.s2_cellid.specs.Token.{filled_value, IsSpelling, first_fault, unless, read_token}
+use Rattle.s2_cellid.specs.Token.{zero_padded_value, IsSpelling, first_fault, unless, read_token}
 use Rattle.s2_cellid.specs.declared.tokens.TokenFault.TheVariants.{Empty, TooLong, NotHex, NotACell}
 
 -- whether a text is empty, too long, hex, a cell
@@ -42,19 +42,19 @@ reads_not_hex text some within other =
     refl
 
 by_cell : (text : List ℕ) → 0 < length text → length text ≤ 16 → is_hex text ≡ true
-    → (valid : Bool) → is_cell_id (filled_value text) ≡ valid
-    → read_token text ≡ unless (first_fault ((not valid, NotACell) ∷ [])) (filled_value text)
+    → (valid : Bool) → is_cell_id (zero_padded_value text) ≡ valid
+    → read_token text ≡ unless (first_fault ((not valid, NotACell) ∷ [])) (zero_padded_value text)
 unfolding read_token
 by_cell text some within hex valid is =
     rw (some_text text some, short_text text within, hex)
-    (ap (λ b. unless (first_fault ((not b, NotACell) ∷ [])) (filled_value text)) is)
+    (ap (λ b. unless (first_fault ((not b, NotACell) ∷ [])) (zero_padded_value text)) is)
 
 reads_no_cell : (text : List ℕ) → 0 < length text → length text ≤ 16 → is_hex text ≡ true
-    → is_cell_id (filled_value text) ≡ false → read_token text ≡ Err NotACell
+    → is_cell_id (zero_padded_value text) ≡ false → read_token text ≡ Err NotACell
 reads_no_cell text some within hex other = by_cell text some within hex false other
 
 reads_cell : (text : List ℕ) → 0 < length text → length text ≤ 16 → is_hex text ≡ true
-    → is_cell_id (filled_value text) ≡ true → read_token text ≡ Ok (filled_value text)
+    → is_cell_id (zero_padded_value text) ≡ true → read_token text ≡ Ok (zero_padded_value text)
 reads_cell text some within hex valid = by_cell text some within hex true valid
 
 -- a spelling of a valid id reads as that id
@@ -66,7 +66,7 @@ reads_spelling text id spelling valid =
 
 -- a text of hex digits reads as its id, if that is valid
 pub reads_id : (text : List ℕ) (id : ℕ) (cell : Option ℕ) → 0 < length text → length text ≤ 16
-    → IsTrue (is_hex text) → id ≡ filled_value text
+    → IsTrue (is_hex text) → id ≡ zero_padded_value text
     → SomeIff cell (IsCellId id) id → ok_or cell NotACell ≡ read_token text
 reads_id text id None some within hex is never =
     let other = ap is_cell_id (sym is) ∙ not_true (is_cell_id id) never in

@@ -18,8 +18,8 @@ use Rattle.std.proofs.Math.Nat.{mul_assoc, pow-succ', pow-le-pow_right, mul-le-m
 use Rattle.std.proofs.Math.Seq.{take-append_seam}
 use Rattle.s2_cellid.specs.Cell.{lowest_place, lowest_bit, IsCellId}
 use Rattle.s2_cellid.proofs.lemmas.Block.{id_between, block_of, number_of}
-use Rattle.s2_cellid.specs.Digits.{is_hex, filled, HoldsToken, refilled}
-use Rattle.s2_cellid.specs.Token.{filled_value, IsSpelling, IsInPrintedForm, hex_digits, is_zero, without_end_zeros, token_text}
+use Rattle.s2_cellid.specs.Digits.{is_hex, zero_padded, HoldsToken, refilled}
+use Rattle.s2_cellid.specs.Token.{zero_padded_value, IsSpelling, IsInPrintedForm, hex_digits, is_zero, without_end_zeros, token_text}
 
 pub length-hex_digits : (count n : ℕ) → length (hex_digits count n) ≡ count
 unfolding hex_digits
@@ -200,14 +200,14 @@ last-kept xs some same =
     let clash : true ≡ false = sym (ap is_zero at) ∙ stops in cc
 
 -- a text that does not end in a zero, filled up and stripped again, is the same
-stripped-filled : (text : List ℕ) → 0 < length text → get_or text (length text - 1) 0 ≢ 48
-    → without_end_zeros (filled text) ≡ text
-stripped-filled text some ended =
+stripped-zero_padded : (text : List ℕ) → 0 < length text → get_or text (length text - 1) 0 ≢ 48
+    → without_end_zeros (zero_padded text) ≡ text
+stripped-zero_padded text some ended =
     let missing = 16 - length text in
-    let whole : length (filled text) ≡ length text + missing =
+    let whole : length (zero_padded text) ≡ length text + missing =
     length-append text (replicate missing 48)
     ∙ ap (λ n. length text + n) (length-replicate missing 48) in
-    let zeros = suffix_len_is is_zero (filled text) (length text) 0 (omega (arith, whole))
+    let zeros = suffix_len_is is_zero (zero_padded text) (length text) 0 (omega (arith, whole))
     (λ k from below.
     ap is_zero (get_or-append_right text (replicate missing 48) (length text) k 0 refl from
     ∙ get_or-replicate missing (k - length text) 48 0 (omega (arith, whole))))
@@ -215,21 +215,21 @@ stripped-filled text some ended =
     let last = length text - 1 in
     ap is_zero (get_or_append_left text (replicate missing 48) 0 last (omega arith))
     ∙ other_char (get_or text last 0) ended) in
-    let same : kept (filled text) ≡ length text = omega (arith, whole, zeros) in
-    ap (λ n. take n (filled text)) same ∙ take-append_seam text (replicate missing 48)
+    let same : kept (zero_padded text) ≡ length text = omega (arith, whole, zeros) in
+    ap (λ n. take n (zero_padded text)) same ∙ take-append_seam text (replicate missing 48)
 
 all-replicate : (p : ℕ → Bool) (n : ℕ) → p 48 ≡ true → list_all p (replicate n 48) ≡ true
 all-replicate p zero passes = refl
 all-replicate p (suc n) passes = rw (passes, all-replicate p n passes) refl
 
-all-filled : (p : ℕ → Bool) (text : List ℕ) → p 48 ≡ true → list_all p text ≡ true
-    → list_all p (filled text) ≡ true
-all-filled p text passes all =
+all-zero_padded : (p : ℕ → Bool) (text : List ℕ) → p 48 ≡ true → list_all p text ≡ true
+    → list_all p (zero_padded text) ≡ true
+all-zero_padded p text passes all =
     list_all-append p text (replicate (16 - length text) 48)
     ∙ rw (all, all-replicate p (16 - length text) passes) refl
 
-length-filled : (text : List ℕ) → length text ≤ 16 → length (filled text) ≡ 16
-length-filled text within =
+length-zero_padded : (text : List ℕ) → length text ≤ 16 → length (zero_padded text) ≡ 16
+length-zero_padded text within =
     length-append text (replicate (16 - length text) 48)
     ∙ ap (λ n. length text + n) (length-replicate (16 - length text) 48) ∙ omega arith
 
@@ -245,15 +245,15 @@ holds_token id = record {
 }
 
 -- a token is read back
-value_of-token : (id : ℕ) → id < 2 ^ 64 → filled_value (token_text id) ≡ id
-unfolding filled_value
+value_of-token : (id : ℕ) → id < 2 ^ 64 → zero_padded_value (token_text id) ≡ id
+unfolding zero_padded_value
 value_of-token id fits =
     let digits = hex_digits 16 id in
     ap (digits_value 16) ((refilled digits (kept digits) (holds_token id)).0)
     ∙ value_of-hex_digits 16 id 0 ∙ omega arith
 
-empty_value : (text : List ℕ) → length text ≡ 0 → filled_value text ≡ 0
-unfolding filled_value
+empty_value : (text : List ℕ) → length text ≡ 0 → zero_padded_value text ≡ 0
+unfolding zero_padded_value
 empty_value [] none = refl
 empty_value (c ∷ cs) none = absurd (omega (arith, none))
 
@@ -297,17 +297,17 @@ printed_token id valid =
 -- and no other spelling is printed
 pub only_token : (text : List ℕ) (id : ℕ) → IsSpelling text id → IsInPrintedForm text
     → text ≡ token_text id
-unfolding filled_value
+unfolding zero_padded_value
 only_token text id spelling printed =
     let digits =
-    all_digits (filled text) (all-filled (λ c. is_digit c 16) text refl spelling.hex) in
-    let lower = all-filled (λ c. not (is_ascii_uppercase c)) text refl printed.lower in
-    let same : hex_digits (length (filled text)) (digits_value 16 (filled text)) ≡ filled text =
-    digits_of-value (filled text) 0 digits lower in
-    let of_id : hex_digits 16 id ≡ filled text =
-    ap (λ n. hex_digits n id) (sym (length-filled text spelling.at_most))
-    ∙ ap (hex_digits (length (filled text))) (sym spelling.value) ∙ same in
-    sym (stripped-filled text spelling.some printed.ended) ∙ ap without_end_zeros (sym of_id)
+    all_digits (zero_padded text) (all-zero_padded (λ c. is_digit c 16) text refl spelling.hex) in
+    let lower = all-zero_padded (λ c. not (is_ascii_uppercase c)) text refl printed.lower in
+    let same : hex_digits (length (zero_padded text)) (digits_value 16 (zero_padded text)) ≡ zero_padded text =
+    digits_of-value (zero_padded text) 0 digits lower in
+    let of_id : hex_digits 16 id ≡ zero_padded text =
+    ap (λ n. hex_digits n id) (sym (length-zero_padded text spelling.at_most))
+    ∙ ap (hex_digits (length (zero_padded text))) (sym spelling.value) ∙ same in
+    sym (stripped-zero_padded text spelling.some printed.ended) ∙ ap without_end_zeros (sym of_id)
 
 hex_below : (c : ℕ) → digit_value c < 16 → c < 128
 hex_below c digit = grind (arith, nat_tests)
@@ -359,8 +359,8 @@ value_of-append (x ∷ xs) ys before = value_of-append xs ys (before * 16 + digi
 
 -- to fill up with zeros is to shift by four bits for each
 pub shifted : (text : List ℕ) → 0 < length text → length text ≤ 16 → AllDigits 16 text
-    → digits_value 16 text * 2 ^ (64 - 4 * length text) % 2 ^ 64 ≡ filled_value text
-unfolding filled_value
+    → digits_value 16 text * 2 ^ (64 - 4 * length text) % 2 ^ 64 ≡ zero_padded_value text
+unfolding zero_padded_value
 shifted text some within digits =
     let low : digits_value 16 text < 2 ^ (4 * length text) =
     rw (pow_of_16 (length text)) (digits_value-lt 16 text digits) in

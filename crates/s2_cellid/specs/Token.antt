@@ -5,21 +5,21 @@ use Rattle.std.specs.Char.{digit_char, is_ascii_uppercase}
 use Rattle.std.specs.List.{list_all, suffix_len}
 use Rattle.std.specs.Str.Parse.{digits_value}
 use Rattle.s2_cellid.specs.Cell.{is_cell_id}
-use Rattle.s2_cellid.specs.Digits.{most_digits, is_hex, filled}
+use Rattle.s2_cellid.specs.Digits.{id_digits, is_hex, zero_padded}
 use Rattle.s2_cellid.specs.declared.tokens.TokenFault.{TokenFault}
 use Rattle.s2_cellid.specs.declared.tokens.TokenFault.TheVariants.{Empty, TooLong, NotHex, NotACell}
 
 -- the number that the text writes in base 16, padded with zeros on the right to all digits of an id
-unfoldable pub filled_value : List ℕ → ℕ
-filled_value text = digits_value 16 (filled text)
+unfoldable pub zero_padded_value : List ℕ → ℕ
+zero_padded_value text = digits_value 16 (zero_padded text)
 
 -- the text spells the id: it is 1 to 16 hex digits of either case, which, padded with zeros on the right,
 -- write the id in base 16
 pub record IsSpelling (text : List ℕ) (id : ℕ) : Type 0 where
   pub some : 0 < length text
-  pub at_most : length text ≤ most_digits
+  pub at_most : length text ≤ id_digits
   pub hex : IsTrue (is_hex text)
-  pub value : filled_value text ≡ id
+  pub value : zero_padded_value text ≡ id
 
 -- the text has no upper-case letter, and no digit 0 (48 in ASCII) at its end
 pub record IsInPrintedForm (text : List ℕ) : Type 0 where
@@ -41,13 +41,13 @@ without_end_zeros digits = take (length digits - suffix_len is_zero digits) digi
 
 -- the token of an id: its hex digits without the zeros at their end
 abbrev pub token_text : ℕ → List ℕ
-token_text id = without_end_zeros (hex_digits most_digits id)
+token_text id = without_end_zeros (hex_digits id_digits id)
 
 -- what can be wrong with a text, in the order in which it is looked for
 abbrev pub faults : List ℕ → List (Bool × TokenFault)
 faults text =
-    (length text == 0, Empty) ∷ (nat_lt most_digits (length text), TooLong) ∷ (not (is_hex text), NotHex)
-    ∷ (not (is_cell_id (filled_value text)), NotACell) ∷ []
+    (length text == 0, Empty) ∷ (nat_lt id_digits (length text), TooLong) ∷ (not (is_hex text), NotHex)
+    ∷ (not (is_cell_id (zero_padded_value text)), NotACell) ∷ []
 
 -- the first fault whose condition holds
 abbrev pub first_fault : List (Bool × TokenFault) → Option TokenFault
@@ -61,7 +61,7 @@ unless (Some fault) id = Err fault
 
 -- what a text reads as: the first fault that applies, or the id
 unfoldable pub read_token : List ℕ → Result ℕ TokenFault
-read_token text = unless (first_fault (faults text)) (filled_value text)
+read_token text = unless (first_fault (faults text)) (zero_padded_value text)
 
 -- what a fault prints
 abbrev pub token_fault_text : TokenFault → List ℕ

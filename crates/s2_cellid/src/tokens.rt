@@ -5,8 +5,8 @@ ghost use Rattle.std.specs.Char.{digit_char, digit_value};
 ghost use Rattle.std.specs.List.{suffix_len};
 ghost use Rattle.std.specs.Option.{SomeIff};
 ghost use Rattle.s2_cellid.specs.Cell.{IsCellId};
-ghost use Rattle.s2_cellid.specs.Digits.{is_hex, most_digits};
-ghost use Rattle.s2_cellid.specs.Token.{filled_value, IsSpelling, IsInPrintedForm, read_token};
+ghost use Rattle.s2_cellid.specs.Digits.{is_hex, id_digits};
+ghost use Rattle.s2_cellid.specs.Token.{zero_padded_value, IsSpelling, IsInPrintedForm, read_token};
 ghost use Rattle.s2_cellid.specs.Token.{hex_digits, is_zero, token_text};
 
 use crate::CellId;
@@ -19,7 +19,7 @@ const DIGITS: usize = 16;
 
 // Proves that the constant is that of the definition.
 fn has_the_limit()
-    ensures { DIGITS ≡ most_digits }
+    ensures { DIGITS ≡ id_digits }
 {}
 
 // Marks a byte in `HEX_VALUES` that is no hex digit.
@@ -84,13 +84,13 @@ impl Model for Token {
 
     ghost Value = { List ℕ };
 
-    ghost use Rattle.s2_cellid.specs.Digits.{filled, HoldsToken, refilled};
+    ghost use Rattle.s2_cellid.specs.Digits.{zero_padded, HoldsToken, refilled};
 
     ghost view = { λ token. take token.printed token.digits };
 
     ghost invariant = { λ token. HoldsToken token.digits token.printed };
 
-    ghost inverse = { λ text. record { digits = filled text; printed = length text } };
+    ghost inverse = { λ text. record { digits = zero_padded text; printed = length text } };
 
     ghost inverse_ok = { λ token holds. let same = refilled token.digits token.printed holds in
         λ i. record { digits = same.0 i; printed = same.1 i } };
@@ -153,7 +153,7 @@ impl CellId {
         if token.len() > DIGITS {
             return Err(TokenFault::TooLong);
         }
-        let Some(id) = filled_value(token) else {
+        let Some(id) = zero_padded_value(token) else {
             return Err(TokenFault::NotHex);
         };
         CellId::from_raw(id).ok_or(TokenFault::NotACell)
@@ -162,7 +162,7 @@ impl CellId {
 
 // The 16 hex digits of an id as ASCII bytes, lower-case, the highest first.
 fn hex_digits(id: u64) -> [u8; DIGITS]
-    ensures { result ≡ hex_digits most_digits id }
+    ensures { result ≡ hex_digits id_digits id }
 {
     let mut digits = [b'0'; DIGITS];
     for (place, digit) in digits.iter_mut().enumerate() {
@@ -186,8 +186,8 @@ fn hex_digit(value: u64) -> u8
 // The number of hex digits of an id without its trailing zeros. A valid id is never 0, so it is 1 to 16.
 fn printed_length(id: u64) -> usize
     requires { IsCellId id }
-    ensures { result ≡ length (hex_digits most_digits id)
-        - suffix_len is_zero (hex_digits most_digits id) }
+    ensures { result ≡ length (hex_digits id_digits id)
+        - suffix_len is_zero (hex_digits id_digits id) }
 {
     DIGITS - (id.trailing_zeros() / 4) as usize
 }
@@ -202,10 +202,10 @@ fn hex_value(byte: u8) -> Option<u8>
 
 // The number that the 1 to 16 hex digits of `token` write, padded with zeros on the right to 16 digits;
 // `None` if a byte is no hex digit.
-fn filled_value(token: &[u8]) -> Option<u64>
+fn zero_padded_value(token: &[u8]) -> Option<u64>
     requires some { 0 < length token.now }
-    requires at_most { length token.now ≤ most_digits }
-    ensures { SomeIff result (IsTrue (is_hex token.now)) (filled_value token.now) }
+    requires at_most { length token.now ≤ id_digits }
+    ensures { SomeIff result (IsTrue (is_hex token.now)) (zero_padded_value token.now) }
 {
     let mut value = 0;
     for byte in token {

@@ -13,7 +13,7 @@ use Rattle.s2_cover.specs.Leaves.{leaves_of}
 use Rattle.s2_cover.specs.Canonical.{IsCanonical}
 use Rattle.s2_cover.specs.Laying.{IsLaid}
 use Rattle.s2_cover.specs.Rectangles.{RectParts, IsRect, IsInFootprint, WideParts, widened, wide_has, wide_set, rect_leaves, is_along}
-use Rattle.s2_cover.specs.Walking.{IsOpened, HasWalked, HasStopped, AreCrossed, AreCrossedIn, HasLooked, IsRefused, looks_for, max_looks}
+use Rattle.s2_cover.specs.Walking.{IsOpened, HasWalked, HasStopped, AreCrossed, AreCrossedIn, HasCompared, IsRefused, comparisons_for, max_comparisons}
 use Rattle.s2_hilbert.specs.Grid.{side_of}
 use Rattle.s2_cover.specs.declared.walk.CoverFault.{CoverFault}
 use Rattle.s2_cover.specs.declared.walk.CoverFault.TheVariants.{TooManyCells, OutOfMemory}
@@ -123,18 +123,18 @@ whole_opened set face below = inl (square_block (whole face) (whole_is face belo
 
 -- the greatest number of comparisons of a level and a number of cells
 pub most_looks : (level cells limit : ℕ) → level ≤ 24 → cells ≤ limit + 1
-    → looks_for level cells ≤ max_looks limit
+    → comparisons_for level cells ≤ max_comparisons limit
 most_looks level cells limit low few =
     let product : level * cells ≤ 24 * cells = mul-le-mul_right cells low in omega (arith, product, few)
 
 -- what a walk over the whole face has found
-pub record IsCovered (set : ℕ → Bool) (limit : ℕ) (ids : List ℕ) (looked : ℕ) : Type 0 where
+pub record IsCovered (set : ℕ → Bool) (limit : ℕ) (ids : List ℕ) (comparison_count : ℕ) : Type 0 where
   pub canonical : IsCanonical set ids
   pub leaves : (p : ℕ) → leaves_of ids p ≡ set p
   pub own : IsCanonical (leaves_of ids) ids
   pub few : length ids ≤ limit
-  pub looks : IsInRange (length ids) (max_looks limit) looked
-  pub exact : HasLooked set looked
+  pub comparisons : IsInRange (length ids) (max_comparisons limit) comparison_count
+  pub exact : HasCompared set comparison_count
 
 pub covered : (w : WideParts) (square : GridSquare) (limit new : ℕ) (before ids : List ℕ)
     → square ≡ whole w.face
@@ -159,7 +159,7 @@ covered w square limit new before ids is none face level walked =
       leaves = leaves;
       own = canonical_same set (leaves_of ids) ids (λ p. sym (leaves p)) canonical;
       few = walked.few;
-      looks = (walked.counted, omega (arith, walked.looks, most));
+      comparisons = (walked.counted, omega (arith, walked.comparisons, most));
       exact = (
         walked.marked,
         (
@@ -173,9 +173,9 @@ covered w square limit new before ids is none face level walked =
     }
 
 pub refused : (w : WideParts) (limit levels left : ℕ) (fault : CoverFault) → w.face < 6 → levels ≤ 24
-    → left ≤ limit + 1 → HasStopped (wide_set w) limit (0 + looks_for levels left) fault
+    → left ≤ limit + 1 → HasStopped (wide_set w) limit (0 + comparisons_for levels left) fault
     → IsRefused (wide_set w) limit fault
-refused w limit levels left (TooManyCells looked) face level few stopped =
+refused w limit levels left (TooManyCells comparison_count) face level few stopped =
     let set = wide_set w in
     let ids = has_canonical set (λ p. below_leaves w p face) in
     let most = most_looks levels left limit level few in (

@@ -51,9 +51,9 @@ footprint_is rect leaf is =
     let some : 0 < side = pow_pos (30 - rect.level) in (
       λ has.
           let parts = and_parts _ _ has in
-          let both = and_parts _ _ parts.1 in
-          let i_range = in_range (rect.i_min / side) (rect.i_max / side) (leaf.i / side) both.0 in
-          let j_range = in_range (rect.j_min / side) (rect.j_max / side) (leaf.j / side) both.1 in
+          let combined_overlap = and_parts _ _ parts.1 in
+          let i_range = in_range (rect.i_min / side) (rect.i_max / side) (leaf.i / side) combined_overlap.0 in
+          let j_range = in_range (rect.j_min / side) (rect.j_max / side) (leaf.j / side) combined_overlap.1 in
           let i = clamped side rect.i_min rect.i_max leaf.i some is.i_order i_range.0 i_range.1 in
           let j = clamped side rect.j_min rect.j_max leaf.j some is.j_order j_range.0 j_range.1 in
           record {

@@ -69,8 +69,8 @@ joined_range : (first upto middle last p : ℕ) → first ≤ middle → middle 
 joined_range first upto middle last p low near =
     same_test (is_in_range first (max upto last) p)
     (is_in_range first upto p || is_in_range middle last p)
-    (λ both.
-    let range = in_range first (max upto last) p both in
+    (λ combined_overlap.
+    let range = in_range first (max upto last) p combined_overlap in
     elim (cases_lt upto p) [
       | inl beyond ↦
           or_right (is_in_range first upto p) (is_in_range middle last p)

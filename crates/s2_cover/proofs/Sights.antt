@@ -10,7 +10,7 @@ use Rattle.s2_hilbert.specs.Grid.{GridLeaf, grid_leaf, IsLeaf, GridSquare, IsSqu
 use Rattle.s2_hilbert.specs.Curve.{position_of, grid_leaf_at, first_position, last_position}
 use Rattle.s2_hilbert.proofs.lemmas.Curve.{leaf_is, position_undone, leaf_undone, square_leaves}
 use Rattle.s2_cover.specs.Rectangles.{WideParts, is_along, wide_set}
-use Rattle.s2_cover.specs.Walking.{AllIn, SomeIn, Saw, SawSquare, both}
+use Rattle.s2_cover.specs.Walking.{AllIn, SomeIn, IsRangeOverlap, IsSquareOverlap, combined_overlap}
 use Rattle.s2_cover.specs.declared.sight.Overlap.{Overlap}
 use Rattle.s2_cover.specs.declared.sight.Overlap.TheVariants.{Outside, Inside, Across}
 use Rattle.s2_cover.proofs.RangeTests.{of_range}
@@ -176,13 +176,13 @@ and_none false = refl
 
 -- the sight of a square, from the tests of its two coordinates
 saw_both : (w : WideParts) (square : GridSquare) (i_first i_last j_first j_last : ℕ)
-    (i_sight j_sight : Overlap)
+    (i_overlap j_overlap : Overlap)
     → IsSquare square → square.face ≡ w.face → HasSpans square i_first i_last j_first j_last
-    → Saw i_first i_last (is_along (side_of w.level) w.a_min w.a_max) i_sight
-    → Saw j_first j_last (is_along (side_of w.level) w.b_min w.b_max) j_sight
-    → Saw (first_position square) (last_position square) (wide_set w) (both i_sight j_sight)
-saw_both w square i_first i_last j_first j_last i_sight j_sight is face spans =
-    by_sights i_sight j_sight where
+    → IsRangeOverlap i_first i_last (is_along (side_of w.level) w.a_min w.a_max) i_overlap
+    → IsRangeOverlap j_first j_last (is_along (side_of w.level) w.b_min w.b_max) j_overlap
+    → IsRangeOverlap (first_position square) (last_position square) (wide_set w) (combined_overlap i_overlap j_overlap)
+saw_both w square i_first i_last j_first j_last i_overlap j_overlap is face spans =
+    by_sights i_overlap j_overlap where
       Test : Type 0
       Test = ℕ → Bool
 
@@ -213,10 +213,10 @@ saw_both w square i_first i_last j_first j_last i_sight j_sight is face spans =
       j_order : j_first ≤ j_last
       j_order = some_span square.level square.b j_first j_last spans.j
 
-      by_sights : (i_sight j_sight : Overlap) → Saw i_first i_last i_test i_sight
-          → Saw j_first j_last j_test j_sight
-          → Saw (first_position square) (last_position square) (wide_set w) (both i_sight j_sight)
-      by_sights Outside j_sight i_saw j_saw = all false
+      by_sights : (i_overlap j_overlap : Overlap) → IsRangeOverlap i_first i_last i_test i_overlap
+          → IsRangeOverlap j_first j_last j_test j_overlap
+          → IsRangeOverlap (first_position square) (last_position square) (wide_set w) (combined_overlap i_overlap j_overlap)
+      by_sights Outside j_overlap i_saw j_saw = all false
           (λ i j i_in j_in. ap (λ b. b && j_test j) (i_saw i i_in.0 i_in.1))
       by_sights Inside Outside i_saw j_saw = all false (λ i j i_in j_in.
           ap (λ b. b && j_test j) (i_saw i i_in.0 i_in.1) ∙ j_saw j j_in.0 j_in.1)
@@ -243,10 +243,10 @@ saw_both w square i_first i_last j_first j_last i_sight j_sight is face spans =
             (ap (λ b. b && j_test j_saw.0.number) i_saw.1.is),
       )
 
-across_cases : (i_sight j_sight : Overlap) → both i_sight j_sight ≡ Across
-    → (i_sight ≡ Across) ⊎ (j_sight ≡ Across)
-across_cases Outside j_sight e = let clash : Outside ≡ Across = e in cc
-across_cases Inside j_sight e = inr e
+across_cases : (i_overlap j_overlap : Overlap) → combined_overlap i_overlap j_overlap ≡ Across
+    → (i_overlap ≡ Across) ⊎ (j_overlap ≡ Across)
+across_cases Outside j_overlap e = let clash : Outside ≡ Across = e in cc
+across_cases Inside j_overlap e = inr e
 across_cases Across Outside e = let clash : Outside ≡ Across = e in cc
 across_cases Across Inside e = inl refl
 across_cases Across Across e = inl refl
@@ -264,21 +264,21 @@ never_level square level quotient first last spans apart same =
 
 -- a look reports how the square lies to the set
 pub square_seen : (w : WideParts) (square : GridSquare) (i_first i_last j_first j_last side : ℕ)
-    (i_sight j_sight : Overlap)
+    (i_overlap j_overlap : Overlap)
     → side ≡ side_of w.level → IsSquare square → square.face ≡ w.face → square.level ≤ w.level
     → HasSpans square i_first i_last j_first j_last
-    → Saw i_first i_last (is_along side w.a_min w.a_max) i_sight
-    → (i_sight ≡ Across → i_first / side ≢ i_last / side)
-    → Saw j_first j_last (is_along side w.b_min w.b_max) j_sight
-    → (j_sight ≡ Across → j_first / side ≢ j_last / side)
-    → SawSquare (wide_set w) w.level square (both i_sight j_sight)
-square_seen w square i_first i_last j_first j_last side i_sight j_sight sides is face within spans i_saw
+    → IsRangeOverlap i_first i_last (is_along side w.a_min w.a_max) i_overlap
+    → (i_overlap ≡ Across → i_first / side ≢ i_last / side)
+    → IsRangeOverlap j_first j_last (is_along side w.b_min w.b_max) j_overlap
+    → (j_overlap ≡ Across → j_first / side ≢ j_last / side)
+    → IsSquareOverlap (wide_set w) w.level square (combined_overlap i_overlap j_overlap)
+square_seen w square i_first i_last j_first j_last side i_overlap j_overlap sides is face within spans i_saw
     i_apart j_saw j_apart = record {
-      saw = saw_both w square i_first i_last j_first j_last i_sight j_sight is face spans
-          (subst (λ s. Saw i_first i_last (is_along s w.a_min w.a_max) i_sight) sides i_saw)
-          (subst (λ s. Saw j_first j_last (is_along s w.b_min w.b_max) j_sight) sides j_saw);
+      is_overlap = saw_both w square i_first i_last j_first j_last i_overlap j_overlap is face spans
+          (subst (λ s. IsRangeOverlap i_first i_last (is_along s w.a_min w.a_max) i_overlap) sides i_saw)
+          (subst (λ s. IsRangeOverlap j_first j_last (is_along s w.b_min w.b_max) j_overlap) sides j_saw);
       above = λ across.
-          let other : square.level ≢ w.level = elim (across_cases i_sight j_sight across) [
+          let other : square.level ≢ w.level = elim (across_cases i_overlap j_overlap across) [
             | inl i_across ↦ never_level square w.level square.a i_first i_last spans.i
                 (subst (λ s. i_first / s ≢ i_last / s) sides (i_apart i_across))
             | inr j_across ↦ never_level square w.level square.b j_first j_last spans.j

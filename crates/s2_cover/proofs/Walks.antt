@@ -11,7 +11,7 @@ use Rattle.s2_cellid.specs.Family.{square_id}
 use Rattle.s2_cellid.specs.Cell.{first_leaf, last_leaf, cell_has}
 use Rattle.s2_cover.specs.Canonical.{IsLargest, IsCanonical}
 use Rattle.s2_cover.specs.Laying.{IsLaid}
-use Rattle.s2_cover.specs.Walking.{AllIn, SomeIn, IsOpened, looks_for, HasMoreCells, IsCrossed, AreCrossedIn, HasWalked, HasStopped, IsFull}
+use Rattle.s2_cover.specs.Walking.{AllIn, SomeIn, IsOpened, comparisons_for, HasMoreCells, IsCrossed, AreCrossedIn, HasWalked, HasStopped, IsFull}
 use Rattle.s2_cover.specs.declared.walk.CoverFault.{CoverFault}
 use Rattle.s2_cover.specs.declared.walk.CoverFault.TheVariants.{TooManyCells, OutOfMemory}
 use Rattle.s2_cover.proofs.Laid.{laid_upto, laid_more, position_in, has_position}
@@ -56,7 +56,7 @@ walked_outside set levels limit first last old before laid order none few counte
   laid = laid_upto set before first (last + 1) laid order
       (λ p low high. none p low (omega (arith, high)));
   few = few;
-  looks = omega arith;
+  comparisons = omega arith;
   counted = omega (arith, counted);
 }
 
@@ -80,7 +80,7 @@ walked_inside set levels limit level first id old before laid block largest all 
       laid = subst (IsLaid set (before ++ id ∷ [])) upto
           (laid_more set before first id laid largest block.begins);
       few = omega (arith, long, room);
-      looks = omega arith;
+      comparisons = omega arith;
       counted = omega (arith, long, counted);
     }
 
@@ -105,16 +105,16 @@ stopped_inside set limit first id before laid largest begins full ids canonical 
 
 -- after some of the four children of a square, whose own children are `levels` above the leaves
 pub record IsWalking (set : ℕ → Bool) (levels limit most first count k : ℕ) (before cells : List ℕ)
-    (old looked : ℕ) : Type 0 where
+    (old comparison_count : ℕ) : Type 0 where
   pub marked : List ℕ
   pub crossed : AreCrossedIn set most first (first + k * count) marked
-  pub exact : looked ≡ old + 1 + k + 4 * length marked
+  pub exact : comparison_count ≡ old + 1 + k + 4 * length marked
   pub more : List ℕ
   pub grown : cells ≡ before ++ more
   pub laid : IsLaid set cells (first + k * count)
   pub few : length cells ≤ limit
-  pub looks : looked ≤ old + 1 + k + 4 * (levels * length more)
-  pub counted : length cells ≤ looked
+  pub comparisons : comparison_count ≤ old + 1 + k + 4 * (levels * length more)
+  pub counted : length cells ≤ comparison_count
 
 pub walking_begins : (set : ℕ → Bool) (levels limit most first count old : ℕ) (before : List ℕ)
     → IsLaid set before first
@@ -128,7 +128,7 @@ walking_begins set levels limit most first count old before laid few counted = r
   grown = sym (append-nil before);
   laid = subst (IsLaid set before) (omega arith) laid;
   few = few;
-  looks = omega arith;
+  comparisons = omega arith;
   counted = omega (arith, counted);
 }
 
@@ -136,16 +136,16 @@ step_looks : (levels one two all : ℕ) → all ≡ one + two → levels * all �
 step_looks levels one two all is = ap (λ n. levels * n) is ∙ omega arith
 
 pub walking_goes_on : (set : ℕ → Bool) (levels limit level first k upto child : ℕ)
-    (before cells after : List ℕ) (old looked new : ℕ)
+    (before cells after : List ℕ) (old comparison_count new : ℕ)
     → IsBlock child (level + 1) (first + k * leaf_count (level + 1))
     → IsWalking set levels limit (60 - 2 * (level + 1)) first (leaf_count (level + 1)) k before cells
     old
-    looked
-    → HasWalked set levels limit (first + k * leaf_count (level + 1)) upto cells after looked new
+    comparison_count
+    → HasWalked set levels limit (first + k * leaf_count (level + 1)) upto cells after comparison_count new
     → upto ≡ first + (k + 1) * leaf_count (level + 1)
     → IsWalking set levels limit (60 - 2 * (level + 1)) first (leaf_count (level + 1))
     (k + 1) before after old new
-walking_goes_on set levels limit level first k upto child before cells after old looked new block
+walking_goes_on set levels limit level first k upto child before cells after old comparison_count new block
     walking
     walked is =
     let long = length-append walking.more walked.more in
@@ -166,7 +166,7 @@ walking_goes_on set levels limit level first k upto child before cells after old
           ∙ append_assoc before walking.more walked.more;
       laid = subst (IsLaid set after) is walked.laid;
       few = walked.few;
-      looks = omega (arith, walking.looks, walked.looks, products);
+      comparisons = omega (arith, walking.comparisons, walked.comparisons, products);
       counted = walked.counted;
     } where
       next_place : (first k count : ℕ) → first + (k + 1) * count ≡ first + k * count + count
@@ -182,18 +182,18 @@ child_sum levels above taken left all up parts some =
     omega (arith, sum, more, parts, some)
 
 pub child_most : (set : ℕ → Bool) (levels above limit most first count k : ℕ) (before cells : List ℕ)
-    (old looked : ℕ)
-    → IsWalking set levels limit most first count k before cells old looked → above ≡ levels + 1 → k < 4
-    → looked + looks_for levels (limit + 1 - length cells) ≤ old + looks_for above
+    (old comparison_count : ℕ)
+    → IsWalking set levels limit most first count k before cells old comparison_count → above ≡ levels + 1 → k < 4
+    → comparison_count + comparisons_for levels (limit + 1 - length cells) ≤ old + comparisons_for above
     (limit + 1 - length before)
-child_most set levels above limit most first count k before cells old looked walking up below =
+child_most set levels above limit most first count k before cells old comparison_count walking up below =
     let long : length cells ≡ length before + length walking.more =
     ap length walking.grown ∙ length-append before walking.more in
     let sum =
     child_sum levels above (length walking.more) (limit + 1 - length cells) (limit + 1 - length before)
     up
     (omega (arith, long, walking.few)) (omega (arith, walking.few)) in
-    omega (arith, sum, walking.looks, below)
+    omega (arith, sum, walking.comparisons, below)
 
 -- a square with a leaf of the set holds a cell
 more_than_none : (set : ℕ → Bool) (first upto p : ℕ) (before cells more : List ℕ)
@@ -215,16 +215,16 @@ last_sum levels above cells up some =
     omega (arith, more, some)
 
 pub walking_ends : (set : ℕ → Bool) (levels above level limit first k id : ℕ) (before cells : List ℕ)
-    (old looked : ℕ)
+    (old comparison_count : ℕ)
     → IsBlock id level first
     → IsWalking set levels limit (60 - 2 * (level + 1)) first (leaf_count (level + 1)) k before cells
     old
-    looked → k ≡ 4
+    comparison_count → k ≡ 4
     → level < 30 → above ≡ levels + 1 → IsLaid set before first
     → SomeIn first (first + (leaf_count level - 1)) set true
     → SomeIn first (first + (leaf_count level - 1)) set false
-    → HasWalked set above limit first (first + (leaf_count level - 1) + 1) before cells old looked
-walking_ends set levels above level limit first k id before cells old looked block walking all inner up
+    → HasWalked set above limit first (first + (leaf_count level - 1) + 1) before cells old comparison_count
+walking_ends set levels above level limit first k id before cells old comparison_count block walking all inner up
     laid
     inside outside =
     let four = four_children level inner in
@@ -257,7 +257,7 @@ walking_ends set levels above level limit first k id before cells old looked blo
       grown = walking.grown;
       laid = laid_all;
       few = walking.few;
-      looks = omega (arith, walking.looks, last_sum levels above (length walking.more) up some, all);
+      comparisons = omega (arith, walking.comparisons, last_sum levels above (length walking.more) up some, all);
       counted = walking.counted;
     }
 
@@ -287,22 +287,22 @@ child_upto child square k level first =
 pub stopped_later : (set : ℕ → Bool) (limit most more : ℕ) (fault : CoverFault)
     → HasStopped set limit most fault
     → most ≤ more → HasStopped set limit more fault
-stopped_later set limit most more (TooManyCells looked) stopped order =
+stopped_later set limit most more (TooManyCells comparison_count) stopped order =
     ((stopped.0.0, omega (arith, stopped.0.1, order)), stopped.1)
 stopped_later set limit most more OutOfMemory stopped order = tt
 
 -- a fault at a cell that is to be appended
-pub stopped_full : (set : ℕ → Bool) (limit first id looks most : ℕ) (before : List ℕ)
+pub stopped_full : (set : ℕ → Bool) (limit first id comparisons most : ℕ) (before : List ℕ)
     (fault : CoverFault)
-    → IsLaid set before first → IsLargest set id → first_leaf id ≡ first → length before < looks
-    → looks ≤ most
-    → IsFull limit (length before) looks fault → HasStopped set limit most fault
-stopped_full set limit first id looks most before (TooManyCells looked) laid largest begins counted
+    → IsLaid set before first → IsLargest set id → first_leaf id ≡ first → length before < comparisons
+    → comparisons ≤ most
+    → IsFull limit (length before) comparisons fault → HasStopped set limit most fault
+stopped_full set limit first id comparisons most before (TooManyCells comparison_count) laid largest begins counted
     within full = (
       (omega (arith, full, counted), omega (arith, full.0, within)),
       stopped_inside set limit first id before laid largest begins full.1,
     )
-stopped_full set limit first id looks most before OutOfMemory laid largest begins counted within full =
+stopped_full set limit first id comparisons most before OutOfMemory laid largest begins counted within full =
     tt
 
 pub if_err : {T : Type 0} (r : Result T CoverFault) (fault : CoverFault) (P : CoverFault → Type 0)

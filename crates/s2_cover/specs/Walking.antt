@@ -25,18 +25,18 @@ pub record SomeIn (first last : ℕ) (test : ℕ → Bool) (b : Bool) : Type 0 w
   pub is : test number ≡ b
 
 -- how the numbers of a range overlap those that pass a test
-abbrev pub Saw : ℕ → ℕ → (ℕ → Bool) → Overlap → Type 0
-Saw first last test Outside = AllIn first last test false
-Saw first last test Inside = AllIn first last test true
-Saw first last test Across = SomeIn first last test true × SomeIn first last test false
+abbrev pub IsRangeOverlap : ℕ → ℕ → (ℕ → Bool) → Overlap → Type 0
+IsRangeOverlap first last test Outside = AllIn first last test false
+IsRangeOverlap first last test Inside = AllIn first last test true
+IsRangeOverlap first last test Across = SomeIn first last test true × SomeIn first last test false
 
 -- how a square overlaps, from how the ranges of its two coordinates do
-abbrev pub both : Overlap → Overlap → Overlap
-both Outside j = Outside
-both Inside j = j
-both Across Outside = Outside
-both Across Inside = Across
-both Across Across = Across
+abbrev pub combined_overlap : Overlap → Overlap → Overlap
+combined_overlap Outside j = Outside
+combined_overlap Inside j = j
+combined_overlap Across Outside = Outside
+combined_overlap Across Inside = Across
+combined_overlap Across Across = Across
 
 -- the parts of a rectangle in coordinates of squares
 pub record IsWide (w : WideParts) : Type 0 where
@@ -46,8 +46,8 @@ pub record IsWide (w : WideParts) : Type 0 where
   pub b_order : w.b_min ≤ w.b_max
 
 -- how the positions of a square overlap a set; a square that lies across is above the level
-pub record SawSquare (set : ℕ → Bool) (level : ℕ) (square : GridSquare) (sight : Overlap) : Type 0 where
-  pub saw : Saw (first_position square) (last_position square) set sight
+pub record IsSquareOverlap (set : ℕ → Bool) (level : ℕ) (square : GridSquare) (sight : Overlap) : Type 0 where
+  pub is_overlap : IsRangeOverlap (first_position square) (last_position square) set sight
   pub above : sight ≡ Across → square.level < level
 
 -- the cell is a whole face, or its parent has a leaf outside the set
@@ -56,8 +56,8 @@ IsOpened set id =
     (level_of id ≡ 0) ⊎ ((p : ℕ) × (IsTrue (cell_has (parent_of id) p) × (set p ≡ false)))
 
 -- the most comparisons for so many cells, so many levels down: one, and four for each level and cell
-abbrev pub looks_for : ℕ → ℕ → ℕ
-looks_for levels cells = 1 + 4 * (levels * cells)
+abbrev pub comparisons_for : ℕ → ℕ → ℕ
+comparisons_for levels cells = 1 + 4 * (levels * cells)
 
 -- each canonical list of the set is longer than the limit
 abbrev pub HasMoreCells : (ℕ → Bool) → ℕ → Type 0
@@ -75,8 +75,8 @@ pub record AreCrossed (set : ℕ → Bool) (ids : List ℕ) : Type 0 where
   pub members : (id : ℕ) → Contains ids id ↔ IsCrossed set id
 
 -- how many comparisons a cover takes: one of a face, and four of the children of each crossed cell
-abbrev pub HasLooked : (ℕ → Bool) → ℕ → Type 0
-HasLooked set looked = (ids : List ℕ) × (AreCrossed set ids × (looked ≡ 1 + 4 * length ids))
+abbrev pub HasCompared : (ℕ → Bool) → ℕ → Type 0
+HasCompared set comparison_count = (ids : List ℕ) × (AreCrossed set ids × (comparison_count ≡ 1 + 4 * length ids))
 
 -- a crossed cell among the positions from `first` to before `upto`, with its lowest set bit at most at `most`
 pub record IsCrossedIn (set : ℕ → Bool) (most first upto id : ℕ) : Type 0 where
@@ -102,27 +102,27 @@ pub record HasWalked (set : ℕ → Bool) (levels limit first upto : ℕ) (befor
   pub grown : after ≡ before ++ more
   pub laid : IsLaid set after upto
   pub few : length after ≤ limit
-  pub looks : new ≤ old + looks_for levels (length more)
+  pub comparisons : new ≤ old + comparisons_for levels (length more)
   pub counted : length after ≤ new
 
 -- a walk has ended at a fault; if it is for too many cells, then after at most `most` comparisons
 abbrev pub HasStopped : (ℕ → Bool) → ℕ → ℕ → CoverFault → Type 0
-HasStopped set limit most (TooManyCells looked) =
-    IsInRange (limit + 1) most looked × HasMoreCells set limit
+HasStopped set limit most (TooManyCells comparison_count) =
+    IsInRange (limit + 1) most comparison_count × HasMoreCells set limit
 HasStopped set limit most OutOfMemory = Unit
 
 -- the fault at one cell more: there are as many cells as the limit allows
 abbrev pub IsFull : ℕ → ℕ → ℕ → CoverFault → Type 0
-IsFull limit cells looks (TooManyCells looked) = (looked ≡ looks) × (limit ≤ cells)
-IsFull limit cells looks OutOfMemory = Unit
+IsFull limit cells comparisons (TooManyCells comparison_count) = (comparison_count ≡ comparisons) × (limit ≤ cells)
+IsFull limit cells comparisons OutOfMemory = Unit
 
 -- the most comparisons after which a cover within a limit is found or refused: 1 + 96 * (limit + 1)
-abbrev pub max_looks : ℕ → ℕ
-max_looks limit = looks_for max_level (limit + 1)
+abbrev pub max_comparisons : ℕ → ℕ
+max_comparisons limit = comparisons_for max_level (limit + 1)
 
 -- a refusal for too many cells: the set has a canonical list, which is longer than the limit
 abbrev pub IsRefused : (ℕ → Bool) → ℕ → CoverFault → Type 0
-IsRefused set limit (TooManyCells looked) =
-    IsInRange (limit + 1) (max_looks limit) looked
+IsRefused set limit (TooManyCells comparison_count) =
+    IsInRange (limit + 1) (max_comparisons limit) comparison_count
     × ((ids : List ℕ) × (IsCanonical set ids × (limit < length ids)))
 IsRefused set limit OutOfMemory = Unit

@@ -5,7 +5,7 @@ ghost use Rattle.s2_hilbert.specs.Grid.{IsSquare};
 ghost use Rattle.s2_hilbert.specs.Grid as grid;
 ghost use Rattle.s2_cover.specs.Rectangles.{IsRect, widened, is_along, wide_set};
 ghost use Rattle.s2_cover.specs.Walking as spec;
-ghost use Rattle.s2_cover.specs.Walking.{Saw, SawSquare, IsWide};
+ghost use Rattle.s2_cover.specs.Walking.{IsRangeOverlap, IsSquareOverlap, IsWide};
 ghost use Rattle.s2_cover.specs.declared.sight.Overlap.TheVariants.{Across};
 
 use crate::rect::Rect;
@@ -97,16 +97,16 @@ impl Widened {
 
 /// How `square` overlaps the rectangle `wide`, both on one face; the square's level is at most that of the
 /// rectangle. Adds one to `comparison_count`.
-pub(crate) fn compare(wide: &Widened, square: &Square, looked: &mut u64) -> Overlap
+pub(crate) fn compare(wide: &Widened, square: &Square, comparison_count: &mut u64) -> Overlap
     requires wide { IsWide wide.now }
     requires square { IsSquare square.now }
     requires face { square.now.face ≡ wide.now.face }
     requires level { square.now.level ≤ wide.now.level }
-    requires room { looked.old + 1 < 2 ^ 64 }
-    ensures counted { looked.new ≡ looked.old + 1 }
-    ensures saw { SawSquare (wide_set wide.now) wide.now.level square.now result }
+    requires room { comparison_count.old + 1 < 2 ^ 64 }
+    ensures counted { comparison_count.new ≡ comparison_count.old + 1 }
+    ensures is_overlap { IsSquareOverlap (wide_set wide.now) wide.now.level square.now result }
 {
-    *looked += 1;
+    *comparison_count += 1;
     let side = side_of(wide.level);
     combine(
         compare_range(square.i_span(), wide.a_min, wide.a_max, side),
@@ -115,12 +115,12 @@ pub(crate) fn compare(wide: &Widened, square: &Square, looked: &mut u64) -> Over
 }
 
 // The overlap of a square with a rectangle, from the overlaps of its ranges of `i` and of `j`.
-fn combine(i_sight: Overlap, j_sight: Overlap) -> Overlap
-    ensures { result ≡ spec.both i_sight j_sight }
+fn combine(i_overlap: Overlap, j_overlap: Overlap) -> Overlap
+    ensures { result ≡ spec.combined_overlap i_overlap j_overlap }
 {
-    match (i_sight, j_sight) {
+    match (i_overlap, j_overlap) {
         (Overlap::Outside, _) => Overlap::Outside,
-        (Overlap::Inside, _) => j_sight,
+        (Overlap::Inside, _) => j_overlap,
         (Overlap::Across, Overlap::Outside) => Overlap::Outside,
         (Overlap::Across, _) => Overlap::Across,
     }
@@ -132,7 +132,7 @@ fn compare_range(span: (u32, u32), least: u32, greatest: u32, side: u32) -> Over
     requires span { span.0 ≤ span.1 }
     requires order { least ≤ greatest }
     requires side { 0 < side }
-    ensures saw { Saw span.0 span.1 (is_along side least greatest) result }
+    ensures is_overlap { IsRangeOverlap span.0 span.1 (is_along side least greatest) result }
     ensures apart { result ≡ Across → span.0 / side ≢ span.1 / side }
 {
     let low = span.0 / side;

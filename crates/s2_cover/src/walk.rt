@@ -10,7 +10,7 @@ ghost use Rattle.s2_cover.specs.Canonical.{IsCanonical};
 ghost use Rattle.s2_cover.specs.CanonicalList.{canonical_list, IsLonger};
 ghost use Rattle.s2_cover.specs.Laying.{IsLaid};
 ghost use Rattle.s2_cover.specs.Rectangles.{IsInFootprint, rect_leaves, wide_set};
-ghost use Rattle.s2_cover.specs.Walking.{IsOpened, IsWide, HasWalked, HasStopped, IsFull, IsRefused, HasLooked, looks_for, max_looks};
+ghost use Rattle.s2_cover.specs.Walking.{IsOpened, IsWide, HasWalked, HasStopped, IsFull, IsRefused, HasCompared, comparisons_for, max_comparisons};
 ghost use Rattle.s2_cover.specs.declared.walk.CoverFault.TheVariants.{OutOfMemory};
 
 use crate::covers::Cover;
@@ -28,7 +28,7 @@ pub enum CoverFault {
     /// The canonical cover has more cells than the limit.
     TooManyCells {
         /// How many squares were compared with the rectangle until this was known.
-        looked: u64,
+        comparison_count: u64,
     },
     /// Memory ran out.
     OutOfMemory,
@@ -75,9 +75,9 @@ pub fn cover(alloc: Global, rect: &Rect, limit: u32) -> Result<Cover, CoverFault
         IsTrue (leaves_of cover.ids (position_of leaf)) ↔ IsInFootprint rect.now leaf) }
     ensures some { IfOk result (λ cover. 0 < length cover.ids) }
     ensures few { IfOk result (λ cover. length cover.ids ≤ limit) }
-    ensures looked { IfOk result (λ cover.
-        IsInRange (length cover.ids) (max_looks limit) cover.looked) }
-    ensures exact { IfOk result (λ cover. HasLooked (rect_leaves rect.now) cover.looked) }
+    ensures comparison_count { IfOk result (λ cover.
+        IsInRange (length cover.ids) (max_comparisons limit) cover.comparison_count) }
+    ensures exact { IfOk result (λ cover. HasCompared (rect_leaves rect.now) cover.comparison_count) }
     ensures refused { IfErr result (IsRefused (rect_leaves rect.now) limit) }
     ensures list { IfOk result (λ cover. cover.ids ≡ canonical_list (rect_leaves rect.now)) }
     ensures longer { IfErr result (IsLonger (rect_leaves rect.now) limit) }
@@ -85,9 +85,9 @@ pub fn cover(alloc: Global, rect: &Rect, limit: u32) -> Result<Cover, CoverFault
     let wide = Widened::of_rect(rect);
     let face = Square::of_face(wide.face());
     let mut cells = Vec::new(alloc);
-    let mut looked = 0;
-    walk(&wide, &face, limit, &mut cells, &mut looked)?;
-    Ok(Cover::of_canonical(cells, looked))
+    let mut comparison_count = 0;
+    walk(&wide, &face, limit, &mut cells, &mut comparison_count)?;
+    Ok(Cover::of_canonical(cells, comparison_count))
 }
 
 // Appends the canonical cells of the rectangle `wide` that lie in `square`, and adds the number of
@@ -99,7 +99,7 @@ fn walk(
     square: &Square,
     limit: u32,
     cells: &mut Vec<CellId>,
-    looked: &mut u64,
+    comparison_count: &mut u64,
 ) -> Result<(), CoverFault>
     requires wide { IsWide wide.now }
     requires square { IsSquare square.now }
@@ -108,21 +108,21 @@ fn walk(
     requires laid { IsLaid (wide_set wide.now) cells.old.items (first_position square.now) }
     requires few { length cells.old.items ≤ limit }
     requires opened { IsOpened (wide_set wide.now) (square_id square.now) }
-    requires counted { length cells.old.items ≤ looked.old }
-    requires room { looked.old
-        + looks_for (wide.now.level - square.now.level) (limit + 1 - length cells.old.items) < 2 ^ 64 }
+    requires counted { length cells.old.items ≤ comparison_count.old }
+    requires room { comparison_count.old
+        + comparisons_for (wide.now.level - square.now.level) (limit + 1 - length cells.old.items) < 2 ^ 64 }
     ensures ok { OnOk result (HasWalked (wide_set wide.now) (wide.now.level - square.now.level) limit
         (first_position square.now) (last_position square.now + 1)
-        cells.old.items cells.new.items looked.old looked.new) }
-    ensures err { IfErr result (HasStopped (wide_set wide.now) limit (looked.old
-        + looks_for (wide.now.level - square.now.level) (limit + 1 - length cells.old.items))) }
+        cells.old.items cells.new.items comparison_count.old comparison_count.new) }
+    ensures err { IfErr result (HasStopped (wide_set wide.now) limit (comparison_count.old
+        + comparisons_for (wide.now.level - square.now.level) (limit + 1 - length cells.old.items))) }
 {
-    match compare(wide, square, looked) {
+    match compare(wide, square, comparison_count) {
         Overlap::Outside => {}
-        Overlap::Inside => push_cell(square, limit, cells, *looked)?,
+        Overlap::Inside => push_cell(square, limit, cells, *comparison_count)?,
         Overlap::Across => {
             for k in 0..4u8 {
-                walk(wide, &square.child(k), limit, cells, looked)?;
+                walk(wide, &square.child(k), limit, cells, comparison_count)?;
             }
         }
     }
@@ -135,14 +135,14 @@ fn push_cell(
     square: &Square,
     limit: u32,
     cells: &mut Vec<CellId>,
-    looked: u64,
+    comparison_count: u64,
 ) -> Result<(), CoverFault>
     ensures pushed { OnOk result (cells.new.items ≡ cells.old.items ++ square_id square.now ∷ []) }
     ensures room { OnOk result (length cells.old.items < limit) }
-    ensures full { IfErr result (IsFull limit (length cells.old.items) looked) }
+    ensures full { IfErr result (IsFull limit (length cells.old.items) comparison_count) }
 {
     if cells.len() >= limit as usize {
-        return Err(CoverFault::TooManyCells { looked });
+        return Err(CoverFault::TooManyCells { comparison_count });
     }
     cells.push(CellId::of_square(square))?;
     Ok(())

@@ -7,7 +7,7 @@ ghost use Rattle.s2_hilbert.specs.Curve as curve;
 
 use crate::levels::{LEAF_LEVEL, quadrant_of};
 use crate::quadrants::{quadrant_at, step_to, turned};
-use crate::tables::{place_of_four, point_four_levels_down};
+use crate::tables::{place_four_levels_down, point_four_levels_down};
 
 // The number of steps of four levels below the two highest levels.
 const FOURS: u8 = 7;
@@ -29,7 +29,7 @@ pub fn place_on_face(turn: u8, i: u32, j: u32) -> u64
     let mut place = 4 * u64::from(first.place) + u64::from(second.place);
     let mut row = 256 * usize::from(second.turn);
     for step in 0..FOURS {
-        let four = place_of_four(row + pair_at(digits, FOURS - 1 - step));
+        let four = place_four_levels_down(row + pair_at(digits, FOURS - 1 - step));
         place = 256 * place + u64::from(four.place);
         row = usize::from(four.row);
     }

@@ -34,7 +34,7 @@ macro_rules! points {
 
 /// Follows the curve of orientation `turn` four levels down to the point (`i`, `j`): the place of the point,
 /// and 256 times the orientation there. `key` is `turn * 256 + i * 16 + j`.
-pub fn place_of_four(key: usize) -> &'static FourPlaces
+pub fn place_four_levels_down(key: usize) -> &'static FourPlaces
     requires { key < 1024 }
     ensures place { result.now.place ≡ curve.place 4 (key / 256) (key / 16 % 16) (key % 16) }
     ensures row { result.now.row

@@ -4,5 +4,5 @@
 mod regions;
 mod sought;
 
-pub use regions::{at_most, joined, push_clipped, whole_of};
+pub use regions::{at_most, enclosing_slab, joined, push_clipped};
 pub use sought::SearchArea;

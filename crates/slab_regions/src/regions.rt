@@ -11,7 +11,7 @@ use std::slice;
 use volume4d::{Held, Slab};
 
 /// One slab that encloses `first` and all of `others`: their join.
-pub fn whole_of(first: &Slab, others: &[Slab]) -> Slab
+pub fn enclosing_slab(first: &Slab, others: &[Slab]) -> Slab
     ensures { HasAll (slabs_have (first.now ∷ others.now)) result }
 {
     let mut whole = *first;
@@ -31,7 +31,7 @@ pub fn at_most(alloc: Global, extents: &[Slab], limit: usize) -> Result<Vec<Slab
 {
     match extents.split_first() {
         Some((first, others)) if limit <= others.len() => {
-            Vec::from_slice(alloc, slice::from_ref(&whole_of(first, others)))
+            Vec::from_slice(alloc, slice::from_ref(&enclosing_slab(first, others)))
         }
         _ => Vec::from_slice(alloc, extents),
     }

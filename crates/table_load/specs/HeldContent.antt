@@ -42,7 +42,7 @@ abbrev pub live_count : List Filed → ℕ
 live_count ps = length (filter (λ p. is_live p.row.usage) ps)
 
 -- these are the statistics of the state `w`, whatever `is_old` says
-pub record AreHoldingsOf (h : DbStats) (w : World) : Type 0 where
+pub record AreStatsOf (h : DbStats) (w : World) : Type 0 where
   pub operators : h.operators ≡ length w.operators
   pub plans : h.plans ≡ length w.plans
   pub live : h.live ≡ live_count w.plans

@@ -29,7 +29,7 @@ use Rattle.table_load.specs.declared.naming.InvalidPart.TheVariants.{Plans, Volu
 use Rattle.table_load.specs.declared.naming.InvalidPart.TheVariants.{OldVolume, OldSpan, OldPlan}
 use Rattle.table_load.specs.Files.{Finds}
 use Rattle.table_load.specs.Moving.{AreSortedOld, HasNoNewRows, IsOldArea}
-use Rattle.row_codec.specs.ContentRows.{AreOperatorRows, ArePlanRows, AreShared}
+use Rattle.row_codec.specs.ContentRows.{AreOperatorRows, ArePlanRows, HaveOperatorsAndRoom}
 use Rattle.table_load.specs.Opening.{AreParts}
 use Rattle.table_load.specs.Opening.{AreSortedHeads, IsNoDesk}
 use Rattle.row_codec.specs.Tables.{AreSpanRows, row_of_plan}
@@ -37,9 +37,9 @@ use Rattle.row_codec.specs.Tables.{AreSpanRows, row_of_plan}
 -- ---- which part is named
 
 -- a part, if its rows are invalid; none if memory ran out
-abbrev pub if_no_desk : RowFault → InvalidPart → Option InvalidPart
-if_no_desk row.InvalidRows part = Some part
-if_no_desk row.OutOfMemory part = None
+abbrev pub part_if_invalid : RowFault → InvalidPart → Option InvalidPart
+part_if_invalid row.InvalidRows part = Some part
+part_if_invalid row.OutOfMemory part = None
 
 -- the row in `plan` of a plan within the limits, whatever its volumes are
 pub record IsPlanHead (head : Row) : Type 0 where
@@ -75,19 +75,19 @@ AreNoPlans heads volumes =
     (ps : List Filed) → IsStrictlySortedBy filed_cmp ps → ¬ ArePlanRows ps heads volumes
 
 -- operators and plans have these rows, but a plan's operator isn't there, or an operator has too many plans
-pub record AreUnshared (t : Tables) : Type 0 where
+pub record LackOperatorsOrRoom (t : Tables) : Type 0 where
   pub operators : List Listed
   pub plans : List Filed
   pub listed : AreOperatorRows operators t.operators
   pub filed : ArePlanRows plans t.plans t.volumes
-  pub unshared : ¬ AreShared operators plans
+  pub unshared : ¬ HaveOperatorsAndRoom operators plans
 
 -- the part that is named of the rows but for spans and covers; `other` is the name for rows of volumes
 abbrev pub FailsHeads : Tables → InvalidPart → InvalidPart → Type 0
 FailsHeads t other part =
     ((part ≡ Operator) × AreNoOperators t.operators)
     ⊎ ((((part ≡ Plan) ⊎ (part ≡ other)) × AreNoPlans t.plans t.volumes)
-    ⊎ ((part ≡ Plans) × AreUnshared t))
+    ⊎ ((part ≡ Plans) × LackOperatorsOrRoom t))
 
 -- some operators and these plans have the rows but for spans and covers, and are a content's
 abbrev pub AreGoodHeads : Tables → List Filed → Type 0

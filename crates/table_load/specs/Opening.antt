@@ -28,7 +28,7 @@ use Rattle.table_load.specs.declared.fault.OpenFault.{OpenFault}
 use Rattle.table_load.specs.declared.fault.OpenFault.TheVariants.{OutOfMemory, Store, NotADesk, OldSchema}
 use Rattle.table_load.specs.Covers.{AreCompared}
 use Rattle.table_load.specs.Standing.{IsDatabaseOf}
-use Rattle.row_codec.specs.ContentRows.{AreOperatorRows, ArePlanRows, AreShared}
+use Rattle.row_codec.specs.ContentRows.{AreOperatorRows, ArePlanRows, HaveOperatorsAndRoom}
 
 -- why a store cannot be opened
 abbrev pub open_fault_text : OpenFault → List ℕ
@@ -57,7 +57,7 @@ fault_of_rows row.InvalidRows = NotADesk
 pub record AreAgreed (ls : List Listed) (ps : List Filed) (rows : List Row) : Type 0 where
   pub names : IsStrictlySortedBy listed_cmp ls
   pub keys : IsStrictlySortedBy filed_cmp ps
-  pub shared : AreShared ls ps
+  pub shared : HaveOperatorsAndRoom ls ps
   pub spans : AreSpanRows ps rows
 
 -- the tables, each in the order of its key, have the rows of the world in that order, but for the covers
@@ -93,7 +93,7 @@ pub record AreSortedHeads (t rows : Tables) (covered : Bool) : Type 0 where
 pub record AreListedInOrder (ls : List Listed) (ps : List Filed) : Type 0 where
   pub names : IsStrictlySortedBy listed_cmp ls
   pub keys : IsStrictlySortedBy filed_cmp ps
-  pub shared : AreShared ls ps
+  pub shared : HaveOperatorsAndRoom ls ps
 
 -- the tables but for spans and covers have the rows of these operators and plans, which are a content's
 pub record AreParts (t : Tables) (ls : List Listed) (ps : List Filed) : Type 0 where

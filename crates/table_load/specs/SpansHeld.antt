@@ -5,5 +5,5 @@ use Rattle.table_load.specs.declared.spans.SpanCheck.{SpanCheck}
 use Rattle.table_load.specs.SpanChecks.{HasChecked}
 
 -- the check has compared these rows with its plans
-abbrev pub AreHeld : SpanCheck → List Row → Type 0
-AreHeld check = HasChecked check.plans.items check.cursor check.agree check.count check.span_bounds
+abbrev pub WereCompared : SpanCheck → List Row → Type 0
+WereCompared check = HasChecked check.plans.items check.cursor check.agree check.count check.span_bounds

@@ -33,7 +33,7 @@ pub fn connect<S: Start>(
 /// # Errors
 ///
 /// Those of `connect`, and `Store` if there is no file at the path, or an empty one.
-pub fn connect_there<S: Start>(
+pub fn connect_to_existing<S: Start>(
     rt: &HostRuntime,
     path: &str,
     start: S,

@@ -17,7 +17,7 @@ ghost use Rattle.table_load.specs.Writable.{HaveFewRows};
 ghost use Rattle.row_codec.specs.SpanBounds.{IsKnownRow, Keeps};
 ghost use Rattle.table_load.specs.Opening.{IsContentOf, AreNoContent};
 ghost use Rattle.row_codec.specs.Tables.{AreSpanRows, volume_rows};
-ghost use Rattle.table_load.specs.SpansHeld.{AreHeld};
+ghost use Rattle.table_load.specs.SpansHeld.{WereCompared};
 ghost use Rattle.table_load.specs.Opening.{AreListedInOrder, AreParts, AreRows, AreSortedHeads};
 ghost use Rattle.table_load.specs.Opening.{BeginsWith, HasRowsOld, HasNewRows};
 ghost use Rattle.table_load.specs.Opening.{ShowsNoDesk, ShowsOldRows};
@@ -275,15 +275,15 @@ pub(crate) fn finish_content(
     operators: Vec<ListedOperator>,
     check: SpanCheck,
 ) -> Result<(Content, MemoryIndex), OpenFault>
-    requires taken { (rows : List Values) × AreHeld check rows }
+    requires taken { (rows : List Values) × WereCompared check rows }
     ensures value { IfOk result (λ found. (found.0.operators ≡ operators.items)
         × (found.0.plans ≡ check.plans.items)) }
-    ensures agree { (rows : List Values) → AreHeld check rows
+    ensures agree { (rows : List Values) → WereCompared check rows
         → OnOk result (AreSpanRows check.plans.items rows) }
     ensures known { AreListedInOrder operators.items check.plans.items
         → IfOk result (λ found. Knows found.1 found.0) }
     ensures refused { IfErr result (λ e. e ≡ OpenFault.NotADesk → (rows : List Values)
-        → AreHeld check rows → ¬ AreSpanRows check.plans.items rows) }
+        → WereCompared check rows → ¬ AreSpanRows check.plans.items rows) }
     ensures fault { IfErr result (λ e. (e ≢ OpenFault.Store) × (e ≢ OpenFault.OldSchema)) }
 {
     one_list_of_ranges();

@@ -11,7 +11,7 @@ ghost use Rattle.table_load.specs.Opening.{BlamesDatabase, HasRowsOld};
 ghost use Rattle.table_load.specs.OpeningSteps.{IsRead, ShowsPart};
 ghost use Rattle.table_load.specs.Writable.{HaveFewRows};
 ghost use Rattle.table_load.specs.HeldContent as spec;
-ghost use Rattle.table_load.specs.HeldContent.{AreHoldingsOf, AreNoContentIn, IsContentIn, ShowsContent, ShowsNone};
+ghost use Rattle.table_load.specs.HeldContent.{AreStatsOf, AreNoContentIn, IsContentIn, ShowsContent, ShowsNone};
 
 use crate::fault::OpenFault;
 use crate::finding::{find_desk_tables, load_content};
@@ -56,7 +56,7 @@ pub fn read_stats<S: Alter>(
     connection: &mut Connection<S>,
 ) -> Result<DbStats, OpenFault>
     requires settled { connection.old.in_transaction ≡ false }
-    ensures value { IfOk result (λ stats. (w : World) × AreHoldingsOf stats w
+    ensures value { IfOk result (λ stats. (w : World) × AreStatsOf stats w
         × ShowsContent S.Store connection.old connection.new stats.is_old w) }
     ensures refused { IfErr result (λ e. e ≡ OpenFault.NotADesk →
         ShowsNone S.Store connection.old connection.new) }
@@ -71,7 +71,7 @@ pub fn read_stats<S: Alter>(
 /// The statistics of the state `content`. `is_old` says whether it was read in schema 1.
 pub fn stats_of(content: &Content, is_old: bool) -> DbStats
     requires { IsContent content.now }
-    ensures counted { AreHoldingsOf result content.now }
+    ensures counted { AreStatsOf result content.now }
     ensures schema { result.is_old ≡ is_old }
 {
     DbStats {

@@ -77,7 +77,7 @@ pub fn load_or_migrate<S: Alter>(
 {
     let (made, old) = find_desk_tables(connection)?;
     if old {
-        return move_tables(alloc, connection, made);
+        return migrate_tables(alloc, connection, made);
     }
     let (kept, known, _) = load_or_create(alloc, connection, made)?;
     Ok((kept, known, 0))
@@ -85,7 +85,7 @@ pub fn load_or_migrate<S: Alter>(
 
 // Loads the state of a database of schema 1, and migrates its rows; returns what `load_or_migrate` does.
 #[tactic(auto, using(crate::proofs::lemmas::Opening::some_operators))]
-fn move_tables<S: Alter>(
+fn migrate_tables<S: Alter>(
     alloc: Global,
     connection: &mut Connection<S>,
     made: TablesPresent,

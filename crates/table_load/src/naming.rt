@@ -13,10 +13,10 @@ ghost use Rattle.table_load.specs.Naming as spec;
 ghost use Rattle.table_load.specs.Naming.{AreGoodHeads, ArePlanHeads, FailsHeads, FailsOldSpans, FailsSpans};
 ghost use Rattle.table_load.specs.Naming.{FailsMoving, FailsNew, FailsOld, FailsPart};
 ghost use Rattle.table_load.specs.Naming.{IsPlanHead, NamesIn, ShowsPartOf};
-ghost use Rattle.table_load.specs.SpansHeld.{AreHeld};
+ghost use Rattle.table_load.specs.SpansHeld.{WereCompared};
 ghost use Rattle.table_load.specs.OpeningSteps.{ShowsOperators, ShowsPart};
 
-use crate::connecting::connect_there;
+use crate::connecting::connect_to_existing;
 use crate::fault::OpenFault;
 use crate::finding::{find_desk_tables, read_heads};
 use crate::moving::{are_new_tables_empty, are_within_old_limits, read_old_heads};
@@ -95,7 +95,7 @@ pub fn part_at<S: Start>(
     ensures named { IfOk result (λ it. NamesIn (image_at S.Start) it.part it.connection) }
     ensures unread { IfErr result (IsUnreached (image_at S.Start)) }
 {
-    match connect_there(rt, path, start) {
+    match connect_to_existing(rt, path, start) {
         Ok(connection) => Ok(name_part(rt.alloc(), connection)),
         Err(unreached) => Err(unreached),
     }
@@ -107,13 +107,13 @@ fn name_part<D: Disk + Drop>(alloc: Global, mut connection: Connection<FileStore
     ensures reads { OnlyReads over_files connection result.connection }
     ensures shows { ShowsPartOf over_files connection result.connection result.part FailsPart }
 {
-    let part = first_fault(alloc, &mut connection);
+    let part = find_invalid(alloc, &mut connection);
     Named { part, connection }
 }
 
 /// Finds the first invalid part of a database. None if there is none, or if the database can't be read.
 #[tactic(auto, using(crate::proofs::lemmas::Opening::some_operators, crate::proofs::NamedLemmas::new_named, crate::proofs::NamedLemmas::old_named))]
-pub fn first_fault<S: Alter>(alloc: Global, connection: &mut Connection<S>) -> Option<InvalidPart>
+pub fn find_invalid<S: Alter>(alloc: Global, connection: &mut Connection<S>) -> Option<InvalidPart>
     requires settled { connection.old.in_transaction ≡ false }
     ensures reads { OnlyReads S.Store connection.old connection.new }
     ensures shows { ShowsPartOf S.Store connection.old connection.new result FailsPart }
@@ -209,7 +209,7 @@ fn old_rows_fault<S: Alter>(
 // `Span` if the rows of spans aren't those of the plans; else `Cover` unless `covered`. None also if memory
 // runs out.
 fn fault_of_spans(mut check: SpanCheck, covered: bool) -> Option<InvalidPart>
-    ensures { (rows : List Values) → AreHeld check rows
+    ensures { (rows : List Values) → WereCompared check rows
         → IfSome result (FailsSpans check.plans.items rows covered) }
 {
     match check.agrees() {
@@ -227,7 +227,7 @@ fn fault_of_spans(mut check: SpanCheck, covered: bool) -> Option<InvalidPart>
 // `OldSpan` if the rows of spans aren't those of the plans; else `OldPlan` if a plan exceeds the limits of
 // schema 1. None if memory runs out.
 fn fault_of_old_spans(mut check: SpanCheck) -> Option<InvalidPart>
-    ensures { (rows : List Values) → AreHeld check rows
+    ensures { (rows : List Values) → WereCompared check rows
         → IfSome result (FailsOldSpans check.plans.items rows) }
 {
     match check.agrees() {
@@ -254,11 +254,11 @@ fn plans_of(
     one_shape();
     let operators = match operators_in(alloc, &rows.operators) {
         Ok(operators) => operators,
-        Err(fault) => return Err(if_no_desk(fault, InvalidPart::Operator)),
+        Err(fault) => return Err(part_if_invalid(fault, InvalidPart::Operator)),
     };
     let plans = match plans_in(alloc, &rows.plans, &rows.volumes) {
         Ok(plans) => plans,
-        Err(fault) => return Err(if_no_desk(fault, plan_or_volume(volume, &rows.plans))),
+        Err(fault) => return Err(part_if_invalid(fault, plan_or_volume(volume, &rows.plans))),
     };
     if !are_names_ascending(&operators) {
         return Err(Some(InvalidPart::Operator));
@@ -273,8 +273,8 @@ fn plans_of(
 }
 
 // The part `part`, whose rows were refused for `fault`, if they are invalid; None if memory ran out.
-fn if_no_desk(fault: RowFault, part: InvalidPart) -> Option<InvalidPart>
-    ensures { result ≡ spec.if_no_desk fault part }
+fn part_if_invalid(fault: RowFault, part: InvalidPart) -> Option<InvalidPart>
+    ensures { result ≡ spec.part_if_invalid fault part }
 {
     match fault {
         RowFault::InvalidRows => Some(part),

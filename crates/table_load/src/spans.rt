@@ -22,7 +22,7 @@ ghost use Rattle.table_load.specs.SpanChecks.{
   IsSlabFound,
   after_plan,
 };
-ghost use Rattle.table_load.specs.SpansHeld.{AreHeld};
+ghost use Rattle.table_load.specs.SpansHeld.{WereCompared};
 ghost use Rattle.table_load.specs.OpeningSteps.{ShowsPart};
 
 use crate::fault::OpenFault;
@@ -187,7 +187,7 @@ impl SpanCheck {
     /// A check before the first row.
     pub fn new(alloc: Global, plans: Vec<FiledPlan>) -> SpanCheck
         ensures plans { result.plans.items ≡ plans.items }
-        ensures fresh { AreHeld result [] }
+        ensures fresh { WereCompared result [] }
     {
         SpanCheck {
             plans,
@@ -201,8 +201,8 @@ impl SpanCheck {
     // Counts `row`, makes the span bounds hold for it, and compares it with the next expected row.
     // `AllocError` also if there are too many rows to count.
     fn add(&mut self, row: &Row) -> Result<(), AllocError>
-        ensures taken { OnOk result ((rows : List Columns) → AreHeld self.old rows
-            → AreHeld self.new (rows ++ row.now ∷ [])) }
+        ensures taken { OnOk result ((rows : List Columns) → WereCompared self.old rows
+            → WereCompared self.new (rows ++ row.now ∷ [])) }
         ensures plans { self.new.plans.items ≡ self.old.plans.items }
     {
         if self.count >= TOO_MANY {
@@ -222,7 +222,7 @@ impl SpanCheck {
     ///
     /// `AllocError` if memory runs out.
     pub(crate) fn agrees(&mut self) -> Result<bool, AllocError>
-        ensures agree { IfOk result (λ agree. (rows : List Columns) → AreHeld self.old rows
+        ensures agree { IfOk result (λ agree. (rows : List Columns) → WereCompared self.old rows
             → IsTrue agree ↔ AreSpanRows self.old.plans.items rows) }
         ensures plans { self.new.plans.items ≡ self.old.plans.items }
         ensures count { self.new.count ≡ self.old.count }
@@ -239,9 +239,9 @@ impl RowVisitor for SpanCheck {
     ghost use Rattle.std.specs.Prelude.{◌≡◌};
     ghost use Rattle.sqlite.specs.declared.error.Error.TheVariants.{SqliteFailure};
     ghost use Rattle.sqlite.specs.declared.error.ErrorCode.TheVariants.{OutOfMemory};
-    ghost use Rattle.table_load.specs.SpansHeld.{AreHeld};
+    ghost use Rattle.table_load.specs.SpansHeld.{WereCompared};
 
-    ghost has_taken = { AreHeld };
+    ghost has_taken = { WereCompared };
 
     ghost keeps = { λ first now. now.plans.items ≡ first.plans.items };
 
@@ -267,12 +267,12 @@ pub(crate) fn take_spans<S: Alter>(
     check: &mut SpanCheck,
 ) -> Result<(), OpenFault>
     requires part { ShowsPart S.Store connection.old made }
-    requires fresh { AreHeld check.old [] }
+    requires fresh { WereCompared check.old [] }
     ensures value { HasCleanDisk (state S.Store connection.new) → OnOk result ((rows : List Columns)
         × Lists (key_cells (table_read table))
         (rows_read table (tables_at made (state S.Store connection.old).now.trees)) rows
-        × AreHeld check.new rows) }
-    ensures taken { OnOk result ((rows : List Columns) × AreHeld check.new rows) }
+        × WereCompared check.new rows) }
+    ensures taken { OnOk result ((rows : List Columns) × WereCompared check.new rows) }
     ensures plans { OnOk result (check.new.plans.items ≡ check.old.plans.items) }
     ensures live { OnOk result (StaysOpen S.Store connection.old connection.new) }
     ensures fault { IfErr result (λ e. (e ≢ OpenFault.NotADesk) × (e ≢ OpenFault.OldSchema)) }

@@ -3,12 +3,12 @@ use Rattle.std.proofs.Common.{◌≡◌, ℕ, Bool, true, false, List, Option, N
 use Rattle.desk_wire.specs.Passage.{Course}
 use Rattle.desk_cli.specs.declared.failure.ErrorCode.{ErrorCode}
 use Rattle.desk_cli.specs.declared.failure.ErrorCode.TheVariants as failure
-use Rattle.desk_host.specs.DamageReported.{IsBegun}
+use Rattle.desk_host.specs.DamageReported.{IsCheckReported}
 use Rattle.uss_desk.specs.Refused.{IsLogRefused}
 
 -- a log is damaged, which refuses no file that is copied; or it can't be read, or memory ran out
 begun_fails : (copied : Bool) (path : List ℕ) (begun : Result Bool ErrorCode)
-    (writes : Course (Option (List ℕ))) → IsBegun copied path begun writes → IfErr begun (IsLogRefused copied)
+    (writes : Course (Option (List ℕ))) → IsCheckReported copied path begun writes → IfErr begun (IsLogRefused copied)
 begun_fails copied path (Ok damaged) writes is = tt
 begun_fails copied path (Err failure.DamagedLog) writes is = inl (is.0, refl)
 begun_fails copied path (Err failure.Memory) writes is = inr (inl refl)
@@ -32,7 +32,7 @@ begun_fails copied path (Err failure.Differs) writes is = absurd is
 
 -- of a database in memory no log is looked at
 pub log_refuses : (copied : Bool) (file : Option (List ℕ)) (begun : Result Bool ErrorCode)
-    (writes : Course (Option (List ℕ))) → IfSome file (λ path. IsBegun copied path begun writes)
+    (writes : Course (Option (List ℕ))) → IfSome file (λ path. IsCheckReported copied path begun writes)
     → IfNone file ((begun ≡ Ok false) × (writes.after ≡ writes.before)) → IfErr begun (IsLogRefused copied)
 log_refuses copied (Some path) begun writes is none = begun_fails copied path begun writes is
 log_refuses copied None begun writes is none = subst (λ r. IfErr r (IsLogRefused copied)) (sym none.0) tt

@@ -17,7 +17,7 @@ use Rattle.desk_tables.specs.Store.{Shown}
 use Rattle.uss_desk.specs.LineRecord.{next_number}
 use Rattle.uss_desk.specs.OpenedFor.{load_world}
 use Rattle.uss_desk.specs.OpenedLines.{IsSound}
-use Rattle.uss_desk.specs.Refused.{IsUnfound}
+use Rattle.uss_desk.specs.Refused.{IsStoreOrFolderFailure}
 use Rattle.uss_desk.specs.declared.recording.PendingRecovery.{PendingRecovery}
 use Rattle.uss_desk.specs.declared.rolls.NotedOperators.{NotedOperators}
 
@@ -27,8 +27,8 @@ operators_in None = []
 operators_in (Some all) = all.items
 
 -- what a journal leaves pending at a desk that has the operators noted in the roll
-abbrev pub left_undone : PendingRecovery → NotedOperators → Undone
-left_undone left roll =
+abbrev pub pending_at : PendingRecovery → NotedOperators → Undone
+pending_at left roll =
     undone left.tail.terms (missing_enrolments (operators_in roll.operators) left.tail.operators.items)
     (unanswered_in left.tail.asked)
 
@@ -36,7 +36,7 @@ left_undone left roll =
 -- its answer can't be recorded, or its second is out of range
 abbrev pub IsUnfinished : {A : Type 0} → Option A → ErrorCode → Type 0
 IsUnfinished asked f =
-    IsUnfound f ⊎ (IsSome asked × ((f ≡ failure.Broken) ⊎ (f ≡ failure.Clock)))
+    IsStoreOrFolderFailure f ⊎ (IsSome asked × ((f ≡ failure.Broken) ⊎ (f ≡ failure.Clock)))
 
 -- the number of the folder's last journal: one more if a request is repeated, else the same
 abbrev pub IsNumbered : {A : Type 0} → Option A → ℕ → ℕ → Type 0
@@ -68,5 +68,5 @@ abbrev pub Finishes :
     {S : Type 0} → Ghosts S → Option PendingRecovery → NotedOperators → Parts (Shown S)
     → Result (Parts (Shown S)) ErrorCode → Type 0
 Finishes g None roll opened result = result ≡ Ok opened
-Finishes g (Some left) roll opened (Ok after) = IsFinished g (left_undone left roll) opened after
+Finishes g (Some left) roll opened (Ok after) = IsFinished g (pending_at left roll) opened after
 Finishes g (Some left) roll opened (Err f) = IsUnfinished left.tail.asked f

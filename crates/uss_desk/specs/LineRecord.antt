@@ -32,8 +32,8 @@ BeginsAlone _ _ result = result ≡ Err failure.Store
 
 -- a journal leaves nothing to recover: it ends with a whole entry, its last request is answered, and no
 -- enrolment follows that
-abbrev pub LeavesNothing : Tail → TailEnd → Type 0
-LeavesNothing tail ended = (ended ≡ End) × (tail.asked ≡ None) × (tail.operators.items ≡ [])
+abbrev pub HasNothingPending : Tail → TailEnd → Type 0
+HasNothingPending tail ended = (ended ≡ End) × (tail.asked ≡ None) × (tail.operators.items ≡ [])
 
 -- the number of the next journal; the error `Write` if 64 bits don't hold it
 abbrev pub next_number : ℕ → Result ℕ ErrorCode

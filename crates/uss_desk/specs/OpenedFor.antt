@@ -60,8 +60,8 @@ abbrev pub FileDesk : {D : Type 0} → disk.Ghosts D → Type 0
 FileDesk {D} g = Result (Parts (Shown (FileStore D g))) (OpenError D g)
 
 -- a desk over files to which so many plans were migrated, or why there is none
-abbrev pub MovedDesk : {D : Type 0} → disk.Ghosts D → Type 0
-MovedDesk {D} g = Result (Parts (Shown (FileStore D g)) × ℕ) (OpenError D g)
+abbrev pub MigratedDesk : {D : Type 0} → disk.Ghosts D → Type 0
+MigratedDesk {D} g = Result (Parts (Shown (FileStore D g)) × ℕ) (OpenError D g)
 
 module _ {D : Type 0} {g : disk.Ghosts D} (image : Image) where
   -- the result of opening files that held the image: a desk, or why there is none
@@ -71,14 +71,14 @@ module _ {D : Type 0} {g : disk.Ghosts D} (image : Image) where
 
   -- the result of opening files that held the image and migrating their plans of schema 1: a desk and how
   -- many plans were migrated, or why there is none
-  abbrev pub IsMovedIn : MovedDesk g → Type 0
-  IsMovedIn (Ok moved) = OpensMoved image moved.0.store.held moved.0.store.world moved.1
-  IsMovedIn (Err it) = FailsMovingAt g image it
+  abbrev pub IsMigratedIn : MigratedDesk g → Type 0
+  IsMigratedIn (Ok moved) = OpensMoved image moved.0.store.held moved.0.store.world moved.1
+  IsMigratedIn (Err it) = FailsMovingAt g image it
 
   -- the same, by where the database is: for one in memory the error is `Store`, and nothing is read
-  abbrev pub IsMovedAt : Database → MovedDesk g → Type 0
-  IsMovedAt InMemory moved = MatchResult moved (λ _. ⊥) (λ it. IsUnreadFor it opening.Store)
-  IsMovedAt (File path) moved = IsMovedIn moved
+  abbrev pub IsMigratedAt : Database → MigratedDesk g → Type 0
+  IsMigratedAt InMemory moved = MatchResult moved (λ _. ⊥) (λ it. IsUnreadFor it opening.Store)
+  IsMigratedAt (File path) moved = IsMigratedIn moved
 
 -- what is opened for a command: a desk in memory or one over files, or why there is none
 abbrev pub OpenedDesk : {M : Type 0} → disk.Ghosts M → {D : Type 0} → disk.Ghosts D → Type 0

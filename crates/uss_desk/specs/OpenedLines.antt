@@ -82,10 +82,10 @@ StaysGuarded past opened left = IfOk opened (λ desk. IsSomeAnd left (λ left.
 
 -- the plans are migrated, and their count is printed, or that line is cut off; or the migration failed: the
 -- error code is reported, and nothing is printed
-abbrev pub IsMoveReported :
+abbrev pub IsMigrationReported :
     {S : Type 0} → Result (Parts (Shown S) × ℕ) ErrorCode → Ending → Option (Parts (Shown S))
     → Course (Option (List ℕ)) → Type 0
-IsMoveReported (Ok moved) end left writes =
+IsMigrationReported (Ok moved) end left writes =
     (left ≡ Some moved.0) × IsCountPrinted moved.1 end writes.before writes.after
-IsMoveReported (Err failure) end left writes =
+IsMigrationReported (Err failure) end left writes =
     (left ≡ None) × FailsWith failure end × (writes.after ≡ writes.before)

@@ -7,7 +7,7 @@ use Rattle.host_files.specs.Paths.{AreAtPaths, Look}
 
 -- the paths are checked first (looks). If one doesn't lead to its file, the store is unchanged and the result
 -- r is the error `Store`; else the count of refused changes is unchanged
-pub record IsWatched {S U : Type 0} (looks : Course (Option (List Look))) (refused : Course ℕ)
+pub record ChecksPaths {S U : Type 0} (looks : Course (Option (List Look))) (refused : Course ℕ)
     (store : Course S) (r : Result U StoreFault) : Type 0 where
   pub are_there : Bool
   pub looked : AreAtPaths looks are_there

@@ -3,11 +3,11 @@
 ghost use Rattle.std.specs.Prelude.{◌≡◌, ◌⊎◌, IfErr, false};
 ghost use Rattle.desk_program.specs.Outside.{bytes_written, ended};
 ghost use Rattle.desk_admin.specs.Unopened.{IsOpenFailure, or_failure};
-ghost use Rattle.uss_desk.specs.OpenedLines.{IsMoveReported};
+ghost use Rattle.uss_desk.specs.OpenedLines.{IsMigrationReported};
 ghost use Rattle.uss_desk.specs.Refused.{IsLogRefused};
 
 use crate::closing::{close_after, status_closed};
-use crate::opening::{FileDesk, MovedDesk, open_old};
+use crate::opening::{FileDesk, MigratedDesk, open_old};
 use crate::refusals::report_refusal;
 use desk_admin::reordering::reorder_for;
 use desk_cli::{Database, ErrorCode, ExitReport, report_exit};
@@ -46,11 +46,11 @@ pub fn migrate_here(host: LocalHost<'_>, database: &Database) -> Result<u8, Erro
 /// is ignored; one to `output` is an error, but the plans are migrated all the same.
 pub fn report_moved<F: Start, N: OpenPaths + Drop, W: Write, E: Write>(
     alloc: Global,
-    moved: MovedDesk<F, N>,
+    moved: MigratedDesk<F, N>,
     output: &mut W,
     errors: &mut E,
 ) -> (ExitReport<E>, Option<FileDesk<F, N>>)
-    ensures { IsMoveReported (or_failure moved) (ended E.Write result.0 errors.old errors.new) result.1
+    ensures { IsMigrationReported (or_failure moved) (ended E.Write result.0 errors.old errors.new) result.1
         (bytes_written W.Write output.old output.new) }
 {
     match moved {

@@ -3,7 +3,7 @@
 ghost use Rattle.std.specs.Prelude.{◌≡◌, IfErr, IfOk};
 ghost use Rattle.sqlite_wal.specs.Files.{image_at};
 ghost use Rattle.desk_rules.specs.Terms.{no_terms};
-ghost use Rattle.uss_desk.specs.OpenedFor.{IsBlank, IsMemory, IsMovedAt, IsMovedIn};
+ghost use Rattle.uss_desk.specs.OpenedFor.{IsBlank, IsMemory, IsMigratedAt, IsMigratedIn};
 ghost use Rattle.uss_desk.specs.OpenedFor.{IsOpenedAt, IsOpenedIn};
 ghost use Rattle.uss_desk.specs.Rolls.{HasNoted, HasNotedAt, HasNotedDesk};
 
@@ -47,7 +47,7 @@ pub type OpenedDesk<F, N> = Opened<Result<MemoryDesk, ErrorCode>, FoundDesk<F, N
 pub type FoundDesk<F, N> = Result<FileDesk<F, N>, FileOpenError<F>>;
 
 /// A desk over files and how many plans were migrated to it from schema 1, or why it can't be opened.
-pub type MovedDesk<F, N> = Result<(FileDesk<F, N>, u32), FileOpenError<F>>;
+pub type MigratedDesk<F, N> = Result<(FileDesk<F, N>, u32), FileOpenError<F>>;
 
 /// Opens the desk over a database, in memory or in files. For files, `start` stands for their content,
 /// `paths` are theirs, and the operators of the desk are noted in `roll`.
@@ -100,11 +100,11 @@ pub fn open_file<F: Start, N: OpenPaths + Drop>(
     ensures noted { HasNotedDesk result roll.new }
 {
     make_private(host.rt, path);
-    paths.hold();
+    paths.note_open_files();
     match SqliteStore::open_from(host.rt, path, start) {
         Ok(store) => {
             roll.note(&store);
-            paths.hold();
+            paths.note_open_files();
             Ok(Desk::new(PathChecked::over(store, paths)))
         }
         Err(refused) => Err(OpenError::of(refused)),
@@ -137,8 +137,8 @@ pub fn open_old<F: Start, N: OpenPaths + Drop>(
     database: &Database,
     start: F,
     paths: N,
-) -> MovedDesk<F, N>
-    ensures { IsMovedAt (image_at F.Start) database.now result }
+) -> MigratedDesk<F, N>
+    ensures { IsMigratedAt (image_at F.Start) database.now result }
 {
     match database {
         Database::InMemory => Err(OpenError::unread(OpenFault::Store)),
@@ -154,13 +154,13 @@ fn open_old_file<F: Start, N: OpenPaths + Drop>(
     path: &str,
     start: F,
     mut paths: N,
-) -> MovedDesk<F, N>
-    ensures { IsMovedIn (image_at F.Start) result }
+) -> MigratedDesk<F, N>
+    ensures { IsMigratedIn (image_at F.Start) result }
 {
-    paths.hold();
+    paths.note_open_files();
     match SqliteStore::migrate_from(host.rt, path, start) {
         Ok((store, count)) => {
-            paths.hold();
+            paths.note_open_files();
             Ok((Desk::new(PathChecked::over(store, paths)), count))
         }
         Err(refused) => Err(OpenError::of(refused)),

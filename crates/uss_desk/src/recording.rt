@@ -10,12 +10,12 @@ ghost use Rattle.desk_cli.specs.Lines.{line_of};
 ghost use Rattle.uss_desk.specs.FilesLeft as files;
 ghost use Rattle.uss_desk.specs.FilesLeft.{FailsClosed};
 ghost use Rattle.uss_desk.specs.Finishing.{Finishes, IsDone, IsNumbered, IsUnfinished, KeepsAlone};
-ghost use Rattle.uss_desk.specs.Finishing.{left_undone};
+ghost use Rattle.uss_desk.specs.Finishing.{pending_at};
 ghost use Rattle.uss_desk.specs.LineRecord as spec;
-ghost use Rattle.uss_desk.specs.LineRecord.{BeginsAlone, LeavesNothing};
+ghost use Rattle.uss_desk.specs.LineRecord.{BeginsAlone, HasNothingPending};
 ghost use Rattle.uss_desk.specs.OpenedLines.{AreReadsTested, RemembersDesk};
-ghost use Rattle.uss_desk.specs.Refused.{GoesOnUnless, HandsOn, MayGoOn, IsUndoneAt};
-ghost use Rattle.uss_desk.specs.Refused.{IsKeptOut, IsUnbegun, IsUnfound};
+ghost use Rattle.uss_desk.specs.Refused.{ContinuesUnless, ReportsFirstError, CanContinue, IsPendingAt};
+ghost use Rattle.uss_desk.specs.Refused.{IsFolderFailure, IsClockOrFolderFailure, IsStoreOrFolderFailure};
 ghost use Rattle.uss_desk.specs.Rolls.{HasNoted, HasNotedDesk};
 
 use crate::closing::close_after;
@@ -24,7 +24,7 @@ use crate::rolls::NotedOperators;
 use crate::watching::CloseReport;
 use desk_cli::{DeskArgs, DeskCommand, Enrolment, ErrorCode, ExitReport};
 use desk_host::folders::{
-    JournalError, JournalFile, last_record, make_part, move_rest, name_part, tail_of,
+    JournalError, JournalFile, last_journal, make_part, move_rest, name_part, tail_of,
 };
 use desk_recording::{
     Exchange, Journal, Record, Tail, TailEnd, WrittenRecord, missing_enrolments, recover,
@@ -34,7 +34,7 @@ use desk_rules::terms::Terms;
 use host_files::files::LocalHost;
 use host_files::naming::IN_USE;
 use host_files::paths::OpenPaths;
-use host_files::reporting::report_of;
+use host_files::reporting::report_text;
 use io_ends::Moment;
 use sqlite_disk::Disk;
 use std::alloc::AllocError;
@@ -62,7 +62,7 @@ impl LocalJournal<'_> {
     // Returns `done`, the result of writing the journal. If it is an error, and the first one, it is
     // reported. A failed write of the report and running out of memory are ignored.
     fn report_error(&mut self, done: io::Result<()>) -> Result<(), FileError>
-        ensures { HandsOn done self.old self.new result }
+        ensures { ReportsFirstError done self.old self.new result }
     {
         let Err(error) = done else {
             return Ok(());
@@ -70,7 +70,7 @@ impl LocalJournal<'_> {
         if !self.is_reported {
             self.is_reported = true;
             let text = "the record can't be written";
-            report_of(
+            report_text(
                 self.host.alloc(),
                 self.folder,
                 text,
@@ -141,12 +141,12 @@ pub fn folder_for<'s>(
     ensures none { words.now.folder ≡ None → result ≡ Ok None }
     ensures some { IsSome words.now.folder → IfOk result IsSome }
     ensures begun { IfOk result (λ found. IfSome found (λ folder. folder.is_held ≡ false)) }
-    ensures fault { IfErr result IsUnfound }
+    ensures fault { IfErr result IsStoreOrFolderFailure }
 {
     let Some(path) = words.folder.as_deref() else {
         return Ok(None);
     };
-    let last = or_report(host, path, last_record(host.rt, path))?;
+    let last = or_report(host, path, last_journal(host.rt, path))?;
     let (number, len) = extent_of(&last);
     let undone = match words.database.path() {
         Some(file) => recovery_at(host, path, file, last)?,
@@ -206,8 +206,8 @@ fn recovery_at<'s>(
 ) -> Result<Option<PendingRecovery<'s>>, ErrorCode>
     ensures none { last ≡ None → result ≡ Ok None }
     ensures pending { IfOk result (λ undone. IfSome undone (λ it.
-        IsSomeAnd last (λ found. IsUndoneAt file.now found it))) }
-    ensures fault { IfErr result IsUnfound }
+        IsSomeAnd last (λ found. IsPendingAt file.now found it))) }
+    ensures fault { IfErr result IsStoreOrFolderFailure }
 {
     let Some(record) = last else {
         return Ok(None);
@@ -226,8 +226,8 @@ fn recovery_at<'s>(
 
 // The recovery `left`, if it has anything to do; else `None`.
 fn recovery_if_any(left: PendingRecovery<'_>) -> Option<PendingRecovery<'_>>
-    ensures none { LeavesNothing left.entry.tail left.entry.ended → result ≡ None }
-    ensures some { (result ≡ Some left.entry) ⊎ LeavesNothing left.entry.tail left.entry.ended }
+    ensures none { HasNothingPending left.entry.tail left.entry.ended → result ≡ None }
+    ensures some { (result ≡ Some left.entry) ⊎ HasNothingPending left.entry.tail left.entry.ended }
 {
     if is_complete(&left.tail, left.ended) {
         return None;
@@ -237,7 +237,7 @@ fn recovery_if_any(left: PendingRecovery<'_>) -> Option<PendingRecovery<'_>>
 
 // What the last journal says, and what follows its last whole entry; or why the journal can't be continued.
 fn read_last(host: LocalHost<'_>, last: &JournalFile) -> Result<(Tail, TailEnd), JournalError>
-    ensures { IfOk result (λ read. MayGoOn last.now.number read.0 read.1) }
+    ensures { IfOk result (λ read. CanContinue last.now.number read.0 read.1) }
 {
     let (tail, ended) = tail_of(host.rt, last)?;
     check_tail(last.number, tail, ended)
@@ -246,7 +246,7 @@ fn read_last(host: LocalHost<'_>, last: &JournalFile) -> Result<(Tail, TailEnd),
 // The journal's `tail` and what follows it (`ended`); or why the journal can't be continued, of which
 // `number` is the number in the file name.
 fn check_tail(number: u64, tail: Tail, ended: TailEnd) -> Result<(Tail, TailEnd), JournalError>
-    ensures { GoesOnUnless (spec.cause_of_tail number tail.record ended) (tail, ended) result }
+    ensures { ContinuesUnless (spec.cause_of_tail number tail.record ended) (tail, ended) result }
 {
     match cause_of_tail(number, tail.record, ended) {
         Some(cause) => Err(JournalError::Cause(cause)),
@@ -262,7 +262,9 @@ fn cause_of_tail(number: u64, first_number: Option<u64>, ended: TailEnd) -> Opti
     match (first_number, ended) {
         (None, TailEnd::End) => Some("its last record is empty"),
         (_, TailEnd::Damaged) | (None, TailEnd::Short) => Some("its last record is damaged"),
-        (Some(first_number), _) if first_number != number => Some("its last record has another number"),
+        (Some(first_number), _) if first_number != number => Some(
+            "its last record has another number",
+        ),
         (Some(_), _) => None,
     }
 }
@@ -270,7 +272,7 @@ fn cause_of_tail(number: u64, first_number: Option<u64>, ended: TailEnd) -> Opti
 // Whether a journal leaves nothing to recover: it ends with a whole entry, its last request is answered, and
 // no enrolment follows that request.
 fn is_complete(tail: &Tail, ended: TailEnd) -> bool
-    ensures { IsTrue result ↔ LeavesNothing tail.now ended }
+    ensures { IsTrue result ↔ HasNothingPending tail.now ended }
 {
     ended == TailEnd::End && tail.asked.is_none() && tail.operators.is_empty()
 }
@@ -284,13 +286,13 @@ fn or_report<T: Drop>(
     done: Result<T, JournalError>,
 ) -> Result<T, ErrorCode>
     ensures converted { result ≡ spec.failure_of done }
-    ensures fault { IfErr result IsKeptOut }
+    ensures fault { IfErr result IsFolderFailure }
 {
     match done {
         Ok(value) => Ok(value),
         Err(JournalError::Memory) => Err(ErrorCode::Memory),
         Err(JournalError::Cause(cause)) => {
-            report_of(host.alloc(), folder, cause, &mut host.errors());
+            report_text(host.alloc(), folder, cause, &mut host.errors());
             Err(ErrorCode::Write)
         }
     }
@@ -301,7 +303,7 @@ fn or_report<T: Drop>(
 fn report_store_failure(host: LocalHost<'_>, path: &str, cause: &str) -> ErrorCode
     ensures { result ≡ ErrorCode.Store }
 {
-    report_of(host.alloc(), path, cause, &mut host.errors());
+    report_text(host.alloc(), path, cause, &mut host.errors());
     ErrorCode::Store
 }
 
@@ -351,7 +353,7 @@ impl<'s> JournalFolder<'s> {
         desk: &mut DeskAt<D, N>,
         roll: &mut NotedOperators,
     ) -> Result<(), ErrorCode>
-        ensures done { OnOk result (IsDone over_files (left_undone undone.entry roll.old) desk.old desk.new) }
+        ensures done { OnOk result (IsDone over_files (pending_at undone.entry roll.old) desk.old desk.new) }
         ensures remembered { RemembersDesk over_files desk.old desk.new }
         ensures kept { OnOk result (KeepsAlone over_files desk.old desk.new) }
         ensures cause { IfErr result (IsUnfinished undone.entry.tail.asked) }
@@ -398,15 +400,15 @@ impl<'s> JournalFolder<'s> {
         ensures held { OnOk result (self.new ≡ record self.old { is_held = true }) }
         ensures same { OnErr result (self.new ≡ self.old) }
         ensures once { IsTrue self.old.is_held → result ≡ Ok (tt {0}) }
-        ensures fault { IfErr result IsKeptOut }
+        ensures fault { IfErr result IsFolderFailure }
     {
         if self.is_held {
             return Ok(());
         }
         let (host, path) = (self.host, self.path);
-        let (number, len) = extent_of(&or_report(host, path, last_record(host.rt, path))?);
+        let (number, len) = extent_of(&or_report(host, path, last_journal(host.rt, path))?);
         if number != self.number || len != self.len {
-            report_of(host.alloc(), path, IN_USE, &mut host.errors());
+            report_text(host.alloc(), path, IN_USE, &mut host.errors());
             return Err(ErrorCode::Write);
         }
         self.is_held = true;
@@ -429,7 +431,7 @@ impl<'s> JournalFolder<'s> {
     ) -> Result<Option<LocalRecord<'s>>, ErrorCode>
         ensures none { is_open ≡ false → result ≡ Ok None }
         ensures some { IsTrue is_open → IfOk result IsSome }
-        ensures fault { IfErr result IsUnbegun }
+        ensures fault { IfErr result IsClockOrFolderFailure }
     {
         if !is_open {
             return Ok(None);
@@ -451,7 +453,7 @@ impl<'s> JournalFolder<'s> {
         enrolments: &[Enrolment],
         mut roll: NotedOperators,
     ) -> Result<LocalRecord<'s>, ErrorCode>
-        ensures { IfErr result IsUnbegun }
+        ensures { IfErr result IsClockOrFolderFailure }
     {
         self.check_unchanged()?;
         let (host, path) = (self.host, self.path);
@@ -525,7 +527,7 @@ fn begin_part<'s>(
     terms: &Terms,
     operators: &[Enrolment],
 ) -> Result<LocalJournal<'s>, ErrorCode>
-    ensures { IfErr result IsKeptOut }
+    ensures { IfErr result IsFolderFailure }
 {
     let mut journal = LocalJournal {
         host,
@@ -575,7 +577,7 @@ impl<'s> LocalRecoveryJournal<'s> {
     // name.
     fn begin(&mut self, moment: Moment, bytes: &[u8]) -> Result<LocalRecord<'s>, ErrorCode>
         ensures same { self.new ≡ self.old }
-        ensures fault { IfErr result IsUnbegun }
+        ensures fault { IfErr result IsClockOrFolderFailure }
     {
         let journal = begin_part(
             self.host,

@@ -11,7 +11,7 @@ ghost use Rattle.desk_tables.specs.Closing.{IsLeftUnclosed};
 ghost use Rattle.desk_wire.specs.Passage.{course};
 ghost use Rattle.host_files.specs.Paths.{AreAtPaths};
 ghost use Rattle.uss_desk.specs.Rolls.{HasNoted};
-ghost use Rattle.uss_desk.specs.Watching.{IsWatched};
+ghost use Rattle.uss_desk.specs.Watching.{ChecksPaths};
 
 use crate::rolls::NotedOperators;
 use desk_rules::operator::Operator;
@@ -114,10 +114,10 @@ fn close_at<D: Disk + Drop, N: OpenPaths>(
 fn are_at_paths<N: OpenPaths>(paths: &mut N) -> bool
     ensures { AreAtPaths (course (N.looks paths.old) (N.looks paths.new)) result }
 {
-    if !paths.has_file() {
+    if !paths.leads_to_file() {
         return false;
     }
-    paths.has_log()
+    paths.leads_to_log()
 }
 
 // Applies a change if the files of the store are at their `paths`; else fails with `Store`, and adds one to
@@ -130,7 +130,7 @@ fn apply_at<S: PlanStore, N: OpenPaths>(
     change: &Change,
 ) -> Result<(), StoreFault>
     requires { IsHonest (S.doubt store.old) → IsFitting change.now (S.content store.old) }
-    ensures watched { IsWatched (course (N.looks paths.old) (N.looks paths.new))
+    ensures watched { ChecksPaths (course (N.looks paths.old) (N.looks paths.new))
         (course refused.old refused.new) (course store.old store.new) result }
     ensures ok { IsHonest (S.doubt store.new) →
         OnOk result (S.content store.new ≡ changed_by change.now (S.content store.old)) }

@@ -23,7 +23,7 @@ use Rattle.volume4d.specs.Shared.{corner_of}
 use Rattle.volume4d.specs.Meeting.{IsFirstPoint}
 use Rattle.volume4d.specs.declared.sweep.Lane.{Lane}
 use Rattle.volume4d.specs.Sweep.{items_have, Ascend, IsLate, AddsFirst}
-use Rattle.volume4d.specs.Lanes.{is_alike, alike_have, KeepsFrom, IsReached, BeginsReached, lanes_have, LanesAscend, AreOf, IsCovered}
+use Rattle.volume4d.specs.Lanes.{is_alike, alike_have, KeepsFrom, IsReached, BeginsReached, lanes_have, LanesAscend, HaveAllLeft, IsCovered}
 use Rattle.volume4d.proofs.Corners.{corner_position, corner_position_is, corner_up_to, corner_left, corner_right, not_before}
 use Rattle.volume4d.proofs.FirstPoints.{first_point_same}
 use Rattle.volume4d.proofs.Sweeping.{or_assoc, and_last, begins_up_to, found_stays, one_more_placed, in_parts, later_begin}
@@ -113,7 +113,7 @@ behind_leaves s other behind x = false_from_ne_true _ (λ h.
 -- ---- lanes of all windows
 
 -- lanes of all slabs, one for each window of theirs, have their points
-covered_have : (lanes : List Lane) (mine : List Slab) (x : Point) → AreOf mine lanes
+covered_have : (lanes : List Lane) (mine : List Slab) (x : Point) → HaveAllLeft mine lanes
     → All (IsCovered lanes) mine → lanes_have lanes x ≡ slabs_have mine x
 covered_have lanes mine x of covered = both_ways _ _ mine_has some_has where
   left_is : (k : ℕ) (l : Lane) → k < length lanes → get_or lanes k l ≡ l → l.left.now ≡ mine
@@ -153,7 +153,7 @@ covered_have lanes mine x of covered = both_ways _ _ mine_has some_has where
       )
 
 pub lanes_share : (lanes : List Lane) (mine : List Slab) (f : Point → Bool) (o : Option Point)
-    → AreOf mine lanes → All (IsCovered lanes) mine → IsFirstPoint (λ x. lanes_have lanes x && f x) o
+    → HaveAllLeft mine lanes → All (IsCovered lanes) mine → IsFirstPoint (λ x. lanes_have lanes x && f x) o
     → IsFirstPoint (λ x. slabs_have mine x && f x) o
 lanes_share lanes mine f o of covered =
     first_point_same _ _ (λ x. ap (λ b. b && f x) (covered_have lanes mine x of covered)) o

@@ -43,8 +43,8 @@ abbrev pub LanesAscend : List Lane → Type 0
 LanesAscend lanes = All (λ l. Ascend (λ s. s) l.left.now) lanes
 
 -- in each lane all of the slabs are left: none was dropped
-abbrev pub AreOf : List Slab → List Lane → Type 0
-AreOf slabs lanes = All (λ l. l.left.now ≡ slabs) lanes
+abbrev pub HaveAllLeft : List Slab → List Lane → Type 0
+HaveAllLeft slabs lanes = All (λ l. l.left.now ≡ slabs) lanes
 
 -- one of the lanes has the altitudes and seconds of the slab
 abbrev pub IsCovered : List Lane → Slab → Type 0

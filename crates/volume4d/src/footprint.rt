@@ -119,7 +119,7 @@ fn cell_ranges(alloc: Global, cells: &[CellId]) -> Result<(Ranges, u32), VolumeF
     ensures cells { IfOk result (λ found. found.1 ≡ length cells.now) }
     ensures err { IfErr result (IsFaultOf (shapes.cells cells.now)) }
 {
-    if !is_count(cells.len()) {
+    if !is_allowed_count(cells.len()) {
         return Err(VolumeFault::Cells);
     }
     ranges_are_counted();
@@ -185,7 +185,7 @@ fn cells_of(alloc: Global, bytes: &[u8]) -> Result<Option<Vec<CellId>>, AllocErr
         (λ cells. AreBytesOf (1 ∷ bytes.now) (shapes.cells cells.items))) }
 {
     let (ids, rest) = bytes.as_chunks::<8>();
-    if !rest.is_empty() || !is_count(ids.len()) {
+    if !rest.is_empty() || !is_allowed_count(ids.len()) {
         return Ok(None);
     }
     let mut cells = Vec::new(alloc);
@@ -206,7 +206,7 @@ fn cell_of(id: &[u8; 8]) -> Option<CellId>
 }
 
 // Whether a cell list may have this many cells: 1 to 64.
-fn is_count(count: usize) -> bool
+fn is_allowed_count(count: usize) -> bool
     ensures { result ≡ within_cells count }
 {
     if count == 0 {

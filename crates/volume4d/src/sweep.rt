@@ -10,7 +10,7 @@ ghost use Rattle.volume4d.specs.Slab.{slab_has, slabs_have};
 ghost use Rattle.volume4d.specs.Meeting.{IsFirstPoint};
 ghost use Rattle.volume4d.specs.Sweep.{items_have, Ascend, IsPassed, AreLate, AddsFirst};
 ghost use Rattle.volume4d.specs.Lanes.{is_alike, alike_have, KeepsFrom, IsReached, BeginsReached};
-ghost use Rattle.volume4d.specs.Lanes.{lanes_have, LanesAscend, AreOf, IsCovered};
+ghost use Rattle.volume4d.specs.Lanes.{lanes_have, LanesAscend, HaveAllLeft, IsCovered};
 
 use crate::area::MAX_VOLUMES;
 use crate::corner::{Corner, earlier, least_corner};
@@ -100,10 +100,10 @@ fn sweep<T: HasSlab>(mine: &[Slab], theirs: &[T], pairs: &mut u128) -> Option<Op
 // Makes a lane for each window of `mine`, from the first lane on. Returns the number of windows, or `None`
 // if there are more windows than lanes.
 fn fill_lanes<'a>(mine: &'a [Slab], lanes: &mut [Lane<'a>]) -> Option<usize>
-    requires { AreOf mine.now lanes.old }
+    requires { HaveAllLeft mine.now lanes.old }
     ensures within { IfSome result (λ count. count ≤ length lanes.new) }
     ensures covered { IfSome result (λ count. All (IsCovered (take count lanes.new)) mine.now) }
-    ensures all_left { AreOf mine.now lanes.new }
+    ensures all_left { HaveAllLeft mine.now lanes.new }
 {
     let mut count = 0;
     for slab in mine {
@@ -121,12 +121,12 @@ fn add_lane<'a>(
     slab: &Slab,
 ) -> Option<usize>
     requires within { count ≤ length lanes.old }
-    requires all_left { AreOf mine.now lanes.old }
+    requires all_left { HaveAllLeft mine.now lanes.old }
     ensures within { IfSome result (λ more. more ≤ length lanes.new) }
     ensures kept { IfSome result (λ more. (s : Slab) → IsCovered (take count lanes.old) s
         → IsCovered (take more lanes.new) s) }
     ensures covered { IfSome result (λ more. IsCovered (take more lanes.new) slab.now) }
-    ensures all_left { AreOf mine.now lanes.new }
+    ensures all_left { HaveAllLeft mine.now lanes.new }
 {
     if has_lane(lanes.split_at(count).0, slab) {
         return Some(count);

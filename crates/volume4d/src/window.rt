@@ -103,7 +103,7 @@ impl Window {
         if !are_times(start, end) {
             return Err(WindowFault::Time);
         }
-        if !is_length(start, end) {
+        if !is_allowed_length(start, end) {
             return Err(WindowFault::TooLong);
         }
         Ok(Window {
@@ -173,7 +173,7 @@ fn are_times(start: i64, end: i64) -> bool
 }
 
 // Whether the time from `start` to `end`, in seconds, is within the limit of a day.
-fn is_length(start: i64, end: i64) -> bool
+fn is_allowed_length(start: i64, end: i64) -> bool
     requires low { pos 0 ≤ℤ start }
     requires order { start <ℤ end }
     ensures { result ≡ within_length start end }

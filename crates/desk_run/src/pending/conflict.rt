@@ -18,11 +18,11 @@ use volume4d::{Area, Meeting, Slab};
 
 // A gap between two slabs of a plan is wide if it is more than this fraction (1 in 64) of the leaves from the
 // first slab to the last. So a plan has fewer than 64 gaps that are wide by this rule.
-const GAPS: u64 = 64;
+const GAP_DIVISOR: u64 = 64;
 
 // A gap of more leaves than a cell of level 6 has is wide, too. A store over tables starts to read about that
 // far before an extent, so for two extents it reads no more than for one that includes the gap.
-const WIDEST: u64 = 1 << 48;
+const MAX_GAP: u64 = 1 << 48;
 
 // The conflict that the operator's plan `id` would have with other live plans, its own and others', with this
 // area and priority; None if it would have none.
@@ -52,7 +52,7 @@ pub fn wide_gap(slabs: &[Slab]) -> u64
     ensures { result ≤ 2 ^ 48 }
 {
     match slabs {
-        [first, .., last] => (last.first.saturating_sub(first.first) / GAPS).min(WIDEST),
+        [first, .., last] => (last.first.saturating_sub(first.first) / GAP_DIVISOR).min(MAX_GAP),
         _ => 0,
     }
 }

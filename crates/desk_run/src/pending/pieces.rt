@@ -20,7 +20,7 @@ use volume4d::{Held, Meeting, Slab, bounds_of};
 
 // How many leaves after its first one the first piece ends: as many as a cell of level 10 has. A plan that is
 // no longer takes one query.
-const LENGTH: u64 = 1 << 40;
+const FIRST_LENGTH: u64 = 1 << 40;
 
 // How many times as long each piece is as the one before. All six faces take at most five pieces.
 const GROWTH: u64 = 64;
@@ -44,7 +44,7 @@ pub fn first_among<S: PlanStore>(
     ensures cause { IfErr result (IsCounted S.faults store.old store.new) }
 {
     let whole = bounds_of(slabs);
-    let mut length = LENGTH;
+    let mut length = FIRST_LENGTH;
     let mut piece = piece_from(&whole, whole.first, length);
     while piece.last < whole.last {
         let meeting = first_at(

@@ -13,7 +13,7 @@ use volume4d::Slab;
 
 // Once there are this many extents, a slab is joined to one of the same altitudes and seconds at any
 // distance. A plan has at most 32 volumes, so a piece has at most 96 extents.
-const MOST: usize = 64;
+const SOFT_LIMIT: usize = 64;
 
 // Extents that together have all points of `slabs` at the leaves of `piece`, and may have others.
 pub fn extents_in(alloc: Global, slabs: &[Slab], piece: &Slab) -> Result<Vec<Slab>, AllocError>
@@ -45,7 +45,7 @@ fn add(extents: &mut Vec<Slab>, slab: &Slab, gap: u64) -> Result<(), AllocError>
     ensures kept { OnOk result (Keep extents.old.items extents.new.items) }
     ensures has { OnOk result (HaveAll (slab_has slab.now) extents.new.items) }
 {
-    match place_for(extents, slab, gap) {
+    match find_joinable(extents, slab, gap) {
         Some(place) => widen(extents, place, slab),
         None => extents.push(*slab)?,
     }
@@ -54,10 +54,14 @@ fn add(extents: &mut Vec<Slab>, slab: &Slab, gap: u64) -> Result<(), AllocError>
 
 // The index of the last extent that `slab` may be joined to, if there is one. `gap` is ignored once there are
 // `SOFT_LIMIT` extents.
-fn place_for(extents: &[Slab], slab: &Slab, gap: u64) -> Option<usize>
+fn find_joinable(extents: &[Slab], slab: &Slab, gap: u64) -> Option<usize>
     ensures { IfSome result (λ place. place < length extents.now) }
 {
-    let gap = if extents.len() < MOST { gap } else { u64::MAX };
+    let gap = if extents.len() < SOFT_LIMIT {
+        gap
+    } else {
+        u64::MAX
+    };
     extents
         .iter()
         .rposition(|extent| may_join(extent, slab, gap))

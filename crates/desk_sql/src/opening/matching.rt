@@ -107,7 +107,7 @@ fn is_only_plain(orders: &[Order]) -> bool
 }
 
 /// Whether no column has the current time as its default: `stamps` is empty.
-fn is_stampless(stamps: &Stamps) -> bool
+fn has_no_stamps(stamps: &Stamps) -> bool
     ensures { IsTrue result ↔ (stamps.now ≡ no_stamps) }
 {
     stamps.places.is_empty() && stamps.terms.roots.is_empty() && stamps.formats.is_empty()
@@ -120,7 +120,7 @@ fn has_no_extras(table: &Table) -> bool
     table.key.is_none()
         && table.checks.roots.is_empty()
         && table.computed.is_empty()
-        && is_stampless(&table.stamps)
+        && has_no_stamps(&table.stamps)
         && !table.is_counted
 }
 

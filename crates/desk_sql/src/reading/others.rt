@@ -1,7 +1,7 @@
 //! The spans of other operators.
 
 ghost use Rattle.std.specs.Prelude.{[], filter, map, IsPermutation};
-ghost use Rattle.desk_sql.specs.Rows.{held_columns, tables_of, IsDesk};
+ghost use Rattle.desk_sql.specs.Rows.{columns_from_first, tables_of, IsDesk};
 ghost use Rattle.desk_sql.specs.Effects.{IsReady};
 ghost use Rattle.desk_sql.specs.QueryEnds.{WasOpen, HandsOut};
 ghost use Rattle.desk_sql.specs.Others.{is_others_from};
@@ -28,7 +28,7 @@ pub fn other_spans<S: Alter, T: RowVisitor>(
     requires ready { IsReady S.Store connection.old IsDesk }
     requires fresh { T.has_taken visitor.old [] }
     ensures answers { HandsOut S.Store connection.old connection.new result
-        (λ db. IsPermutation (map held_columns (filter (is_others_from operator.now span_filter low)
+        (λ db. IsPermutation (map columns_from_first (filter (is_others_from operator.now span_filter low)
         (tables_of db).spans))) (T.has_taken visitor.new) T.refuses }
     ensures open { WasOpen S.Store connection.old connection.new result }
 {

@@ -4,8 +4,8 @@ ghost use Rattle.std.specs.Prelude.{◌≡◌, [], ◌∷◌, ℕ, ℤ, List, fi
 ghost use Rattle.sqlite.specs.declared.types.Value.TheVariants.{Text};
 ghost use Rattle.desk_sql.specs.declared.reading.rivals.SpanFilter.{SpanFilter as Reach};
 ghost use Rattle.desk_sql.specs.Queries.{params_of, order_of, rows_of, plan_params, rival_params, others_params};
-ghost use Rattle.desk_sql.specs.Rows.{held_columns, is_of, is_row_by, is_wanted, with_volumes};
-ghost use Rattle.desk_sql.specs.Others.{is_others_from, is_plans};
+ghost use Rattle.desk_sql.specs.Rows.{columns_from_first, is_of, is_row_by, is_rival_from, with_volumes};
+ghost use Rattle.desk_sql.specs.Others.{is_others_from, is_plan_span};
 ghost use Rattle.desk_sql.specs.Statements.{Selects};
 
 use crate::parameters::Parameters;
@@ -141,10 +141,10 @@ fn own_plans_text() -> &'static str
 fn spans_but_text() -> &'static str
     ensures rivals { (operator id : List ℕ) (span_filter : Reach) (low : ℤ) → Selects result.now
         (rival_params operator id span_filter low) (0 ∷ [])
-        (λ t. map held_columns (filter (is_wanted operator id span_filter low) t.spans)) }
+        (λ t. map columns_from_first (filter (is_rival_from operator id span_filter low) t.spans)) }
     ensures others { (operator : List ℕ) (span_filter : Reach) (low : ℤ) → Selects result.now
         (others_params operator span_filter low) (0 ∷ [])
-        (λ t. map held_columns (filter (is_others_from operator span_filter low) t.spans)) }
+        (λ t. map columns_from_first (filter (is_others_from operator span_filter low) t.spans)) }
 {
     "SELECT first, last, lower, upper, start, stop, priority FROM span2 \
      WHERE first >= ?10 AND first <= ?1 AND last >= ?2 AND lower < ?3 AND upper > ?4 \
@@ -156,7 +156,7 @@ fn spans_but_text() -> &'static str
 fn plan_spans_text() -> &'static str
     ensures { (operator id : List ℕ) (span_filter : Reach) → Selects result.now
         (plan_params operator id span_filter) []
-        (λ t. map held_columns (filter (is_plans operator id span_filter) t.spans)) }
+        (λ t. map columns_from_first (filter (is_plan_span operator id span_filter) t.spans)) }
 {
     "SELECT first, last, lower, upper, start, stop, priority FROM span2 \
      WHERE first <= ?1 AND last >= ?2 AND lower < ?3 AND upper > ?4 AND start < ?5 \

@@ -1,7 +1,7 @@
 //! The spans of other plans that may block a plan.
 
 ghost use Rattle.std.specs.Prelude.{[], filter, map, IsPermutation};
-ghost use Rattle.desk_sql.specs.Rows.{is_wanted, held_columns, tables_of, IsDesk};
+ghost use Rattle.desk_sql.specs.Rows.{is_rival_from, columns_from_first, tables_of, IsDesk};
 ghost use Rattle.desk_sql.specs.Effects.{IsReady};
 ghost use Rattle.desk_sql.specs.QueryEnds.{WasOpen, HandsOut};
 
@@ -41,7 +41,7 @@ pub fn rival_spans<S: Alter, T: RowVisitor>(
     requires ready { IsReady S.Store connection.old IsDesk }
     requires fresh { T.has_taken visitor.old [] }
     ensures answers { HandsOut S.Store connection.old connection.new result
-        (λ db. IsPermutation (map held_columns (filter (is_wanted operator.now id.now span_filter low)
+        (λ db. IsPermutation (map columns_from_first (filter (is_rival_from operator.now id.now span_filter low)
         (tables_of db).spans))) (T.has_taken visitor.new) T.refuses }
     ensures open { WasOpen S.Store connection.old connection.new result }
 {

@@ -12,7 +12,7 @@ ghost use Rattle.table_load.specs.LyingDisk.{IsGuarded};
 ghost use Rattle.table_load.specs.Leaving.{IsSettledAt};
 ghost use Rattle.desk_store.specs.World.{World};
 ghost use Rattle.desk_store.specs.Content.{IsContent};
-ghost use Rattle.table_load.specs.HeldContent.{AreHoldingsOf};
+ghost use Rattle.table_load.specs.HeldContent.{AreStatsOf};
 ghost use Rattle.desk_tables.specs.Copying.{AreNotCopied, AreNotMade, AreNotRead, IsMadeIn};
 ghost use Rattle.desk_tables.specs.Copying.{IsUnmadeOf, LooksIn};
 ghost use Rattle.row_codec.specs.Known.{Knows};
@@ -26,7 +26,7 @@ use sqlite::{Connection, FileFrom, FileStore, Start, Unknown};
 use sqlite_disk::Disk;
 use sqlite_trees::store::Alter;
 use std::alloc::Global;
-use table_load::connecting::{connect, connect_new, connect_there};
+use table_load::connecting::{connect, connect_new, connect_to_existing};
 use table_load::fault::OpenFault;
 use table_load::looking::{DbStats, read_content, stats_of};
 use table_load::path::NotOpened;
@@ -117,7 +117,7 @@ impl<S: Start> SqliteStore<FileStore<FileFrom<S>>> {
         ensures cut { MatchResult result (λ moved. IsCutShort IsMovedOn (image_at S.Start) moved.0.held)
             (λ e. IfOk e.connection (IsCutShort IsMovedOn (image_at S.Start))) }
     {
-        match connect_there(rt, path, start) {
+        match connect_to_existing(rt, path, start) {
             Ok(connection) => adopt_old_files(rt.alloc(), connection),
             Err(unreached) => Err(FilesFault {
                 fault: unreached.fault(),
@@ -181,7 +181,7 @@ pub fn look_at<S: Start>(
     path: &str,
     start: S,
 ) -> Result<(Connection<FileStore<FileFrom<S>>>, DbStats), FilesFault<FileFrom<S>>>
-    ensures looks { IfOk result (λ found. (w : World) × AreHoldingsOf found.1 w
+    ensures looks { IfOk result (λ found. (w : World) × AreStatsOf found.1 w
         × LooksIn (image_at S.Start) found.0 found.1.is_old w) }
     ensures fault { IfErr result (λ e. AreNotRead (image_at S.Start) e.fault e.connection) }
 {
@@ -205,7 +205,7 @@ pub fn copy_from<S: Start, N: Start>(
     to: &str,
     other: N,
 ) -> Result<Copied<FileFrom<S>, FileFrom<N>>, CopyFault<FileFrom<S>, FileFrom<N>>>
-    ensures looks { IfOk result (λ copied. AreHoldingsOf copied.1.1 copied.1.0.world
+    ensures looks { IfOk result (λ copied. AreStatsOf copied.1.1 copied.1.0.world
         × LooksIn (image_at S.Start) copied.0 copied.1.1.is_old copied.1.0.world) }
     ensures made { IfOk result (λ copied. IsMadeIn (image_at N.Start) copied.1.0.held) }
     ensures left { IfOk result (λ copied. IsSettledAt over_files copied.1.0.held copied.1.0.world) }
@@ -229,7 +229,7 @@ fn copy_read<D: Disk + Drop, N: Start>(
     requires known { Knows found.2 found.1 }
     ensures same { IfOk result (λ copied. copied.0 ≡ found.0) }
     ensures world { IfOk result (λ copied. copied.1.0.world ≡ found.1) }
-    ensures counted { IfOk result (λ copied. AreHoldingsOf copied.1.1 found.1) }
+    ensures counted { IfOk result (λ copied. AreStatsOf copied.1.1 found.1) }
     ensures schema { IfOk result (λ copied. copied.1.1.is_old ≡ found.3) }
     ensures made { IfOk result (λ copied. IsMadeIn (image_at N.Start) copied.1.0.held) }
     ensures left { IfOk result (λ copied. IsSettledAt over_files copied.1.0.held copied.1.0.world) }
@@ -255,7 +255,7 @@ fn read_at<S: Start>(
     ensures known { IfOk result (λ found. Knows found.2 found.1) }
     ensures fault { IfErr result (λ e. AreNotRead (image_at S.Start) e.fault e.connection) }
 {
-    match connect_there(rt, path, start) {
+    match connect_to_existing(rt, path, start) {
         Ok(connection) => read_connected(rt.alloc(), connection),
         Err(unreached) => Err(FilesFault {
             fault: unreached.fault(),

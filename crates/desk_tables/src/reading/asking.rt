@@ -41,9 +41,9 @@ impl<S: Alter> DeskTables<S> {
         ensures { ReadsSpans S.Store self.old self.new result (λ helds.
             AreWanted self.old.world wanted.now extent.now helds.items) }
     {
-        let questions = span_bounds.questions(self.allocator(), extent)?;
+        let queries = span_bounds.queries(self.allocator(), extent)?;
         id_is_valid(wanted);
-        self.query_all(wanted, extent, &questions)
+        self.query_all(wanted, extent, &queries)
     }
 
     // Runs `query_one` for each range of leaves in `queries`; returns the slabs that they find, in this order.
@@ -52,18 +52,18 @@ impl<S: Alter> DeskTables<S> {
         &mut self,
         wanted: &Wanted,
         extent: &Slab,
-        questions: &[Span],
+        queries: &[Span],
     ) -> Result<Vec<Held>, StoreFault>
-        requires { AllByRecursion (IsWithinExtent extent.now) questions.now }
+        requires { AllByRecursion (IsWithinExtent extent.now) queries.now }
         ensures read { ReadsSpans S.Store self.old self.new result (λ helds.
-            HaveTakenAll (is_asked wanted.now extent.now) questions.now
+            HaveTakenAll (is_asked wanted.now extent.now) queries.now
             (spans_shown S.Store self.old) helds.items) }
         ensures open { HasCleanDisk (state S.Store self.new.held) →
-            OnOk result (0 < length questions.now → IsTrue (state S.Store self.old.held).is_open) }
+            OnOk result (0 < length queries.now → IsTrue (state S.Store self.old.held).is_open) }
     {
         let mut helds = Vec::new(self.allocator());
-        for question in questions {
-            let mut more = self.query_one(wanted, extent, question)?;
+        for query in queries {
+            let mut more = self.query_one(wanted, extent, query)?;
             helds.append(&mut more)?;
         }
         Ok(helds)
@@ -75,17 +75,17 @@ impl<S: Alter> DeskTables<S> {
         &mut self,
         wanted: &Wanted,
         extent: &Slab,
-        question: &Span,
+        query: &Span,
     ) -> Result<Vec<Held>, StoreFault>
-        requires { IsWithinExtent extent.now question.now }
+        requires { IsWithinExtent extent.now query.now }
         ensures read { ReadsSpans S.Store self.old self.new result (λ helds.
-            HaveTaken (is_asked wanted.now extent.now question.now)
+            HaveTaken (is_asked wanted.now extent.now query.now)
             (spans_shown S.Store self.old) helds.items) }
         ensures open { WasOpen S.Store self.old.held self.new.held result }
     {
         let mut rivals = SpanCollector::new(self.alloc);
-        let span_filter = span_filter_from(question, extent, wanted.least);
-        let low = question.first as i64;
+        let span_filter = span_filter_from(query, extent, wanted.least);
+        let low = query.first as i64;
         let operator = wanted.operator.as_str();
         match &wanted.id {
             Some(id) => {

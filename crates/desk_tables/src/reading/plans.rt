@@ -8,14 +8,14 @@ ghost use Rattle.desk_store.specs.Content.{IsId};
 ghost use Rattle.desk_store.specs.Rivals.{HaveLevel};
 ghost use Rattle.live_index.specs.Near.{listed_top};
 ghost use Rattle.desk_tables.specs.ReadsMade.{ReadsSpans, spans_shown};
-ghost use Rattle.row_codec.specs.RivalRows.{HaveTaken, is_asked_of_plan, leaves_begun};
+ghost use Rattle.row_codec.specs.RivalRows.{HaveTaken, is_asked_of_plan, query_leaf_count};
 ghost use Rattle.desk_sql.specs.QueryEnds.{WasOpen};
 
 use crate::reading::readers::slabs_if_read;
 use crate::tables::DeskTables;
 use desk_sql::plan_spans;
 use desk_store::StoreFault;
-use live_index::{PlanKey, whole_of};
+use live_index::{PlanKey, enclosing_slab};
 use row_codec::rivals::{SpanCollector, span_filter_of};
 use s2_cover::Span;
 use sqlite_trees::store::Alter;
@@ -57,7 +57,7 @@ impl<S: Alter> DeskTables<S> {
         let Some((first, others)) = extents.split_first() else {
             return Ok(Vec::new(self.allocator()));
         };
-        self.held_by_plans(keys, 0, &whole_of(first, others))
+        self.held_by_plans(keys, 0, &enclosing_slab(first, others))
     }
 
     /// Reads slabs that have, at each point of `extent`, the greatest priority of those plans of `keys` that
@@ -115,11 +115,11 @@ impl<S: Alter> DeskTables<S> {
 
 /// How many rows are read by the keys of plans at most. If there are more, `queries` are run instead. This only
 /// matters for speed.
-pub(crate) fn max_rows_beside(questions: &[Span]) -> usize
-    ensures { result ≡ (if nat_le (leaves_begun questions.now) MAX_SHORT then MAX_ROWS_BESIDE_SHORT
+pub(crate) fn max_rows_beside(queries: &[Span]) -> usize
+    ensures { result ≡ (if nat_le (query_leaf_count queries.now) MAX_SHORT then MAX_ROWS_BESIDE_SHORT
         else MAX_ROWS) }
 {
-    if count_leaves(questions) <= MAX_SHORT {
+    if count_leaves(queries) <= MAX_SHORT {
         MAX_ROWS_BESIDE_SHORT
     } else {
         MAX_ROWS
@@ -127,21 +127,21 @@ pub(crate) fn max_rows_beside(questions: &[Span]) -> usize
 }
 
 // How many leaves the ranges of all `queries` have together; the sum saturates.
-fn count_leaves(questions: &[Span]) -> u64
-    ensures { result ≡ min (leaves_begun questions.now) (2 ^ 64 - 1) }
+fn count_leaves(queries: &[Span]) -> u64
+    ensures { result ≡ min (query_leaf_count queries.now) (2 ^ 64 - 1) }
 {
     let mut leaves: u64 = 0;
-    for question in questions {
-        leaves = add_leaves(leaves, question);
+    for query in queries {
+        leaves = add_leaves(leaves, query);
     }
     leaves
 }
 
 // The sum of `leaves` and the number of leaves in the range `query`; it saturates.
-fn add_leaves(leaves: u64, question: &Span) -> u64
-    ensures { result ≡ min (leaves + (question.now.last - question.now.first + 1)) (2 ^ 64 - 1) }
+fn add_leaves(leaves: u64, query: &Span) -> u64
+    ensures { result ≡ min (leaves + (query.now.last - query.now.first + 1)) (2 ^ 64 - 1) }
 {
     leaves
-        .saturating_add(question.last.saturating_sub(question.first))
+        .saturating_add(query.last.saturating_sub(query.first))
         .saturating_add(1)
 }

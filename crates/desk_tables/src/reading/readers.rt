@@ -21,7 +21,7 @@ use desk_rules::plan::PlanRow;
 use desk_rules::plan_id::PlanId;
 use desk_sql::{own_plans as own_listing, plan_of, volumes_of};
 use desk_store::StoreFault;
-use live_index::{Wanted, whole_of};
+use live_index::{Wanted, enclosing_slab};
 use row_codec::known::MemoryIndex;
 use row_codec::listing::PlanCollector;
 use row_codec::rivals::SpanCollector;
@@ -122,9 +122,9 @@ impl<S: Alter> DeskTables<S> {
         let Some((first, others)) = extents.split_first() else {
             return Ok(Vec::new(self.allocator()));
         };
-        let whole = whole_of(first, others);
-        let questions = known.span_bounds.questions(self.allocator(), &whole)?;
-        let max_rows = max_rows_beside(&questions);
+        let whole = enclosing_slab(first, others);
+        let queries = known.span_bounds.queries(self.allocator(), &whole)?;
+        let max_rows = max_rows_beside(&queries);
         if let Some(keys) = known
             .live
             .wanted_plans(self.allocator(), wanted, extents, max_rows)?

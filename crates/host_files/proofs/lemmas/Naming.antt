@@ -3,7 +3,7 @@ use Rattle.std.proofs.Common.{◌≡◌, ℕ, Bool, true, false, List, [], ◌�
 use Rattle.std.proofs.lemmas.List.Elements.{All-append, All-cons, All-nil, All-weaker}
 use Rattle.std.specs.Prelude.{All, Result, Ok, Err, is_ok}
 use Rattle.desk_wire.specs.Passage.{course}
-use Rattle.host_files.specs.Naming.{ChangesOwn, Cleared, ClearsOwn, Failed, Follows, Free, GivesNoName, GivesUp, HasFailedStep, IsNotFree, IsUnnamed, LeavesNames, LeavesOthers, Ordered, Removed, Renamed, Step, Synced, Takes, TakesAll, Tried, Twinned, clearing, free_steps, log_of, named_steps, part_of}
+use Rattle.host_files.specs.Naming.{ChangesOwn, Cleared, ClearsOwn, Failed, Follows, Free, GivesNoName, GivesUp, HasFailedStep, IsNotFree, IsUnnamed, LeavesNames, LeavesOthers, Ordered, Removed, Renamed, Step, Synced, Takes, TakesAll, Tried, ScratchCopied, clearing, free_steps, log_of, named_steps, part_of}
 
 -- steps after steps
 pub follows_both : (old mid new : Option (List Step)) (xs ys : List Step) → Follows (course old mid) xs
@@ -128,7 +128,7 @@ module _ {to : List ℕ} {old new : Option (List Step)} (it : IsNotFree to (cour
     names_none (Free path) is = tt
     names_none (Cleared part log) is = tt
     names_none (Tried path) is = tt
-    names_none (Twinned source scratch summed) is = is
+    names_none (ScratchCopied source scratch summed) is = is
     names_none (Removed path) is = tt
     names_none (Renamed from into) is = is
     names_none (Synced path) is = tt

@@ -23,7 +23,7 @@ use Rattle.desk_store.specs.StoreChange.{changed_by}
 use Rattle.desk_store.specs.declared.change.Change.{Change}
 use Rattle.desk_store.specs.declared.change.Change.TheVariants.{Enrol, Put, Close, Clear}
 use Rattle.live_index.specs.declared.volume.LiveVolume.{LiveVolume}
-use Rattle.live_index.specs.Live.{IsLiveVolume, AreVolumesOf, AreVolumes, AreLive, is_volume_of, is_of_any, stays_at, AreBrought}
+use Rattle.live_index.specs.Live.{IsLiveVolume, AreVolumesOf, AreVolumes, AreLive, is_volume_of, is_of_any, stays_at, AreAddedBy}
 use Rattle.live_index.proofs.lemmas.Lists.{along_permutation, IsPermutation-filter, filter_all, all_any}
 
 pub and_turned : (a b : Bool) → (a && b) ≡ (b && a)
@@ -351,7 +351,7 @@ enrol_live name ceiling w old h =
 
 -- what stays at a change and what it brings are the live volumes after it
 pub changed_live : (change : Change) (w : World) (old fresh : List LiveVolume) → AreLive w old
-    → AreBrought change fresh → AreLive (changed_by change w) (filter (stays_at change) old ++ fresh)
+    → AreAddedBy change fresh → AreLive (changed_by change w) (filter (stays_at change) old ++ fresh)
 unfolding changed_by
 changed_live (Enrol operator ceiling) w old fresh h none =
     subst (AreLive (with_operator w operator ceiling))

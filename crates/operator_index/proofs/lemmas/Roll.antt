@@ -21,7 +21,7 @@ use Rattle.desk_store.specs.declared.change.Change.{Change}
 use Rattle.desk_store.specs.declared.change.Change.TheVariants.{Enrol, Put, Close, Clear}
 use Rattle.operator_index.specs.declared.account.PlanState.{PlanState}
 use Rattle.operator_index.specs.declared.account.OperatorEntry.{OperatorEntry}
-use Rattle.operator_index.specs.Roll.{Accounts, AreAccountsOf, account_in, ceiling_after, ceiling_in, close_if, is_state_named, kept_beside, kept_unless, named_by, or_else, plans_after, plans_in, plans_or_none, put_state, state_has_id, state_of}
+use Rattle.operator_index.specs.Roll.{Accounts, AreAccountsOf, account_in, ceiling_after, ceiling_in, close_if, state_has_any_id, total_beside, counted_unless, changed_operator, or_else, plans_after, plans_in, plans_or_none, put_state, state_has_id, state_of}
 
 -- ---- names
 
@@ -189,13 +189,13 @@ close_states id (r ∷ rows) = λ i. go (is_eq (text_cmp id r.id)) i ∷ close_s
   go false = refl
 
 clear_states : (ids : List (List ℕ)) (rows : List PlanRow)
-    → filter (λ s. not (is_state_named ids s)) (map state_of rows) ≡ map state_of (clear_rows ids rows)
+    → filter (λ s. not (state_has_any_id ids s)) (map state_of rows) ≡ map state_of (clear_rows ids rows)
 clear_states ids [] = refl
 clear_states ids (r ∷ rows) = go (not (changes.is_named ids r)) (clear_states ids rows) where
   go : (b : Bool)
-      → filter (λ s. not (is_state_named ids s)) (map state_of rows) ≡ map state_of (clear_rows ids rows)
-      → cond b (state_of r ∷ filter (λ s. not (is_state_named ids s)) (map state_of rows))
-      (filter (λ s. not (is_state_named ids s)) (map state_of rows))
+      → filter (λ s. not (state_has_any_id ids s)) (map state_of rows) ≡ map state_of (clear_rows ids rows)
+      → cond b (state_of r ∷ filter (λ s. not (state_has_any_id ids s)) (map state_of rows))
+      (filter (λ s. not (state_has_any_id ids s)) (map state_of rows))
       ≡ map state_of (cond b (r ∷ clear_rows ids rows) (clear_rows ids rows))
   go true ih = ap (λ ss. state_of r ∷ ss) ih
   go false ih = ih
@@ -275,7 +275,7 @@ replaced_plans o rows w old new a b writes was h same is =
     listed = same_operators o rows w
 
 pub followed : (change : Change) (w : World) (old new : Accounts) (a b : OperatorEntry)
-    → AreWritten (named_by change) old new b → Some a ≡ account_in (named_by change) old
+    → AreWritten (changed_operator change) old new b → Some a ≡ account_in (changed_operator change) old
     → AreAccountsOf w.operators w.plans old → b.ceiling ≡ ceiling_after change a.ceiling
     → b.plans.items ≡ plans_after change a.plans.items
     → AreAccountsOf (changed_by change w).operators (changed_by change w).plans new
@@ -295,7 +295,7 @@ followed (Close o id) w old new a b writes was h is plans =
     ∙ close_states id (plans_of o w))
 followed (Clear o ids) w old new a b writes was h is plans =
     replaced_plans o (clear_rows ids.items (plans_of o w)) w old new a b writes was h is
-    (plans ∙ ap (filter (λ s. not (is_state_named ids.items s))) (there o old a w.operators w.plans was h).1
+    (plans ∙ ap (filter (λ s. not (state_has_any_id ids.items s))) (there o old a w.operators w.plans was h).1
     ∙ clear_states ids.items (plans_of o w))
 
 -- ---- what is read
@@ -324,10 +324,10 @@ states_found id (r ∷ rows) = go (is_eq (text_cmp id r.id)) (states_found id ro
 
 pub counted : (kept : PlanState → ℕ) (count : PlanRow → ℕ) (id : List ℕ)
     → ((r : PlanRow) → kept (state_of r) ≡ count r) → (rows : List PlanRow)
-    → kept_beside kept id (map state_of rows) ≡ world.count_beside count id rows
+    → total_beside kept id (map state_of rows) ≡ world.count_beside count id rows
 unfolding world.count_beside
 counted kept count id same [] = refl
 counted kept count id same (r ∷ rows) =
-    sum_by-cons (kept_unless kept id) (state_of r) (map state_of rows)
-    ∙ ap (λ n. kept_unless kept id (state_of r) + n) (counted kept count id same rows)
+    sum_by-cons (counted_unless kept id) (state_of r) (map state_of rows)
+    ∙ ap (λ n. counted_unless kept id (state_of r) + n) (counted kept count id same rows)
     ∙ ap (λ k. cond (world.has_id id r) 0 k + world.count_beside count id rows) (same r)

@@ -13,7 +13,7 @@ use Rattle.row_codec.specs.declared.values.PlanHead.{PlanHead}
 use Rattle.row_codec.specs.Tables.{area_rows, row_of_plan, row_of_volume, volume_rows_from}
 use Rattle.desk_store.specs.Content.{IsValidVolume}
 use Rattle.row_codec.specs.RowsRead.{IsVolumeAt, IsHead, joined_from, joined_rows, listing_rows}
-use Rattle.row_codec.specs.Gathering.{HasNoArea, IsNoHead, IsUngathered, IsPlanUnderWay, Leads}
+use Rattle.row_codec.specs.Gathering.{HasNoArea, IsNoHead, IsRefusedRow, IsPlanUnderWay, Leads}
 use Rattle.row_codec.proofs.lemmas.Order.{ArePlans}
 use Rattle.row_codec.proofs.JoinLemmas.{IsFirst, each_at, first_row, head_read, no_rows, not_later, stays_later, volume_read}
 
@@ -66,7 +66,7 @@ first_reads row left ps h low first =
 -- the next row of a listing is gathered
 pub never_ungathered : (plans : List PlanRow) (head : Option PlanHead) (volumes : List Block) (row : Row)
     (left : List Row) (ps : List Filed) → ArePlans ps → AreLow ps
-    → Leads plans head volumes (row ∷ left) ps → ¬ IsUngathered head volumes row
+    → Leads plans head volumes (row ∷ left) ps → ¬ IsRefusedRow head volumes row
 never_ungathered plans None volumes row left ps h low leads why =
     let first = first_row row left ps h leads.1 in
     let reads = first_reads row left ps h low first in

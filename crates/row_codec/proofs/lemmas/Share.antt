@@ -13,7 +13,7 @@ use Rattle.sqlite_keyed.proofs.ListLemmas.{filter_none}
 use Rattle.desk_rules.specs.Limits.{max_plans}
 use Rattle.desk_store.specs.World.{Filed, Listed, text_cmp, listed_cmp, filed_cmp, is_by, rows_by, ceiling_of, IsListed}
 use Rattle.desk_store.proofs.lemmas.Order.{is_equal, all_weaker}
-use Rattle.row_codec.specs.ContentRows.{AreShared}
+use Rattle.row_codec.specs.ContentRows.{HaveOperatorsAndRoom}
 use Rattle.row_codec.proofs.lemmas.Order.{turned}
 
 -- a name among those of operators
@@ -45,7 +45,7 @@ pub record Shares (ls : List Listed) (ps : List Filed) : Type 0 where
 pub count_is : (o : List ℕ) (ps : List Filed) → length (rows_by o ps) ≡ length (filter (is_by o) ps)
 count_is o ps = length-map (filter (is_by o) ps) (λ p. p.row)
 
-pub shares_if : (ls : List Listed) (ps : List Filed) → AreShared ls ps → Shares ls ps
+pub shares_if : (ls : List Listed) (ps : List Filed) → HaveOperatorsAndRoom ls ps → Shares ls ps
 shares_if ls ps h = record {
   listed = all_weaker (IsListed (record { operators = ls; plans = ps })) (HasOperator ls)
       (if_listed ls ps) ps
@@ -53,7 +53,7 @@ shares_if ls ps h = record {
   few = λ o. subst (λ n. n ≤ max_plans) (count_is o ps) (h.few o);
 }
 
-pub shared_if : (ls : List Listed) (ps : List Filed) → Shares ls ps → AreShared ls ps
+pub shared_if : (ls : List Listed) (ps : List Filed) → Shares ls ps → HaveOperatorsAndRoom ls ps
 shared_if ls ps h = record {
   listed = all_weaker (HasOperator ls) (IsListed (record { operators = ls; plans = ps }))
       (listed_if ls ps) ps
@@ -265,7 +265,7 @@ pub record AreToShare (ls : List Listed) (ps : List Filed) (others : List Listed
   where
     pub names : IsStrictlySortedBy listed_cmp others
     pub keys : IsStrictlySortedBy filed_cmp left
-    pub same : AreShared ls ps ↔ Shares others left
+    pub same : HaveOperatorsAndRoom ls ps ↔ Shares others left
 
 pub begin : (ls : List Listed) (ps : List Filed) → IsStrictlySortedBy listed_cmp ls
     → IsStrictlySortedBy filed_cmp ps → AreToShare ls ps ls ps
@@ -289,7 +289,7 @@ module _ (ls : List Listed) (ps : List Filed) (others later : List Listed) (l : 
   unfolding IsStrictlySortedBy
   later_sorted = sorted.1
 
-  all_there : AreShared ls ps → Shares (l ∷ later) left
+  all_there : HaveOperatorsAndRoom ls ps → Shares (l ∷ later) left
   all_there k = subst (λ ks. Shares ks left) some (h.same.0 k)
 
   pub goes_on : count ≤ max_plans → more ≡ drop count left → AreToShare ls ps later more
@@ -306,7 +306,7 @@ module _ (ls : List Listed) (ps : List Filed) (others later : List Listed) (l : 
     rest_is : more ≡ rest_of l.name left
     rest_is = more_is ∙ ap (λ n. drop n left) count_of ∙ dropped l.name left
 
-  pub stops : (count ≤ max_plans → ⊥) → IsTrue false ↔ AreShared ls ps
+  pub stops : (count ≤ max_plans → ⊥) → IsTrue false ↔ HaveOperatorsAndRoom ls ps
   stops many = (
     λ t. absurd (true≢false (sym t)),
     λ k. absurd (many (subst (λ n. n ≤ max_plans) (sym count_of)
@@ -322,7 +322,7 @@ nothing = record { listed = tt; few = λ o. omega arith }
 
 pub ends : (ls : List Listed) (ps : List Filed) (others : List Listed) (left : List Filed)
     → AreToShare ls ps others left → others ≡ [] → (r : Bool) → (IsTrue r → left ≡ [])
-    → (left ≡ [] → IsTrue r) → IsTrue r ↔ AreShared ls ps
+    → (left ≡ [] → IsTrue r) → IsTrue r ↔ HaveOperatorsAndRoom ls ps
 ends ls ps others left h none r to from = (
   λ t. h.same.1 (subst (λ ks. Shares ks left) (sym none) (subst (Shares []) (sym (to t)) nothing)),
   λ k. from (nobody left (subst (λ ks. Shares ks left) none (h.same.0 k))),

@@ -28,7 +28,7 @@ use Rattle.desk_store.specs.declared.change.Change.TheVariants.{Enrol, Put, Clos
 use Rattle.row_codec.specs.Tables.{row_of_span, AreSpanRowsFrom, ArePlanSpanRows, AreSpanRows, AreTables}
 use Rattle.row_codec.specs.declared.span_bounds.SpanBounds.{SpanBounds}
 use Rattle.row_codec.specs.RivalRows.{span_filter_of, is_asked_if}
-use Rattle.row_codec.specs.SpanBounds.{AreWhole, IsKnown, IsWithinExtent, Keeps, begins_in, IsKnownBlock, IsKnownPlan, AreKnownPlans, Bounds, BringsKnown, IsKnownRow, HasKnownSpan}
+use Rattle.row_codec.specs.SpanBounds.{FindAll, IsKnown, IsWithinExtent, Keeps, begins_in, IsKnownBlock, IsKnownPlan, AreKnownPlans, Bounds, BringsKnown, IsKnownRow, HasKnownSpan}
 
 -- ---- all of some elements
 
@@ -173,10 +173,10 @@ either_and false b d = refl
 
 module _ (another : Row → Bool) (least : ℕ) (extent : Slab) where
   abbrev rival : Row → Bool
-  rival r = sql.is_reached (span_filter_of extent least) r && another r
+  rival r = sql.passes_filter (span_filter_of extent least) r && another r
 
   abbrev asked : Span → Row → Bool
-  asked question r = is_asked_if another least extent question r
+  asked query r = is_asked_if another least extent query r
 
   module _ (r : Row) (span : Span) (begins : column r 3 ≡ Int (pos span.first)) where
     -- the tests of a row, but for those of its first leaf
@@ -185,31 +185,31 @@ module _ (another : Row → Bool) (least : ℕ) (extent : Slab) where
         && (is_above (column r 6) extent.lower && (is_below (column r 7) extent.end
         && (is_above (column r 8) extent.start && is_at_least (column r 9) (pos least)))))
 
-    asked_is : (question : Span) → IsWithinExtent extent question
-        → asked question r ≡ (begins_in span question && rival r)
-    asked_is question within =
-        (λ i. is_at_least (begins i) (pos question.first)
-        && ((is_at_most (begins i) (pos question.last) && others) && another r))
-        ∙ (λ i. at_least_nat span.first question.first i
-        && ((at_most_nat span.first question.last i && others) && another r))
-        ∙ regrouped (nat_le question.first span.first) (nat_le span.first question.last)
+    asked_is : (query : Span) → IsWithinExtent extent query
+        → asked query r ≡ (begins_in span query && rival r)
+    asked_is query within =
+        (λ i. is_at_least (begins i) (pos query.first)
+        && ((is_at_most (begins i) (pos query.last) && others) && another r))
+        ∙ (λ i. at_least_nat span.first query.first i
+        && ((at_most_nat span.first query.last i && others) && another r))
+        ∙ regrouped (nat_le query.first span.first) (nat_le span.first query.last)
         (nat_le span.first extent.last) others (another r)
-        (no_later span.first question.last extent.last within.1)
-        ∙ (λ i. begins_in span question
+        (no_later span.first query.last extent.last within.1)
+        ∙ (λ i. begins_in span query
         && ((sym (at_most_nat span.first extent.last) i && others) && another r))
-        ∙ (λ i. begins_in span question
+        ∙ (λ i. begins_in span query
         && ((is_at_most (sym begins i) (pos extent.last) && others) && another r))
 
-    asked_any : (questions : List Span) → AllByRecursion (IsWithinExtent extent) questions
-        → list_any (λ question. asked question r) questions ≡ (list_any (begins_in span) questions && rival r)
+    asked_any : (queries : List Span) → AllByRecursion (IsWithinExtent extent) queries
+        → list_any (λ query. asked query r) queries ≡ (list_any (begins_in span) queries && rival r)
     asked_any [] h = refl
-    asked_any (q ∷ questions) h = (λ i. asked_is q h.0 i || asked_any questions h.1 i)
-        ∙ either_and (begins_in span q) (list_any (begins_in span) questions) (rival r)
+    asked_any (q ∷ queries) h = (λ i. asked_is q h.0 i || asked_any queries h.1 i)
+        ∙ either_and (begins_in span q) (list_any (begins_in span) queries) (rival r)
 
   rival_meets : (r : Row) (span : Span) → column r 3 ≡ Int (pos span.first) → column r 4 ≡ Int (pos span.last)
       → rival r ≡ true → (extent.first ≤ span.last) × (span.first ≤ extent.last)
   rival_meets r span begins ends h =
-      let reached = and_parts (sql.is_reached (span_filter_of extent least) r) _ h in
+      let reached = and_parts (sql.passes_filter (span_filter_of extent least) r) _ h in
       let met = and_parts (is_at_most (column r 3) (pos extent.last)) _ reached.0 in
       let last = (and_parts (is_at_least (column r 4) (pos extent.first)) _ met.1).0 in
       let early : nat_le span.first extent.last ≡ true = sym (at_most_nat span.first extent.last)
@@ -218,17 +218,17 @@ module _ (another : Row → Bool) (least : ℕ) (extent : Slab) where
       ∙ ap (λ v. is_at_least v (pos extent.first)) (sym ends) ∙ last in
       (grind (arith, nat_tests, late), grind (arith, nat_tests, early))
 
-  module _ (span_bounds : SpanBounds) (questions : List Span) (whole : AreWhole extent
-      (IsKnown span_bounds) questions)
-      (within : AllByRecursion (IsWithinExtent extent) questions) where
+  module _ (span_bounds : SpanBounds) (queries : List Span) (whole : FindAll extent
+      (IsKnown span_bounds) queries)
+      (within : AllByRecursion (IsWithinExtent extent) queries) where
     pub asked_rival : (r : Row) → HasKnownSpan span_bounds r
-        → list_any (λ question. asked question r) questions ≡ rival r
-    asked_rival r has = asked_any r has.span has.begins questions within ∙ go (rival r) refl where
-      go : (b : Bool) → rival r ≡ b → (list_any (begins_in has.span) questions && b) ≡ b
+        → list_any (λ query. asked query r) queries ≡ rival r
+    asked_rival r has = asked_any r has.span has.begins queries within ∙ go (rival r) refl where
+      go : (b : Bool) → rival r ≡ b → (list_any (begins_in has.span) queries && b) ≡ b
       go true h =
           let meets = rival_meets r has.span has.begins has.ends h in
           ap (λ c. c && true) (whole has.span has.known meets.0 meets.1)
-      go false h = and-false (list_any (begins_in has.span) questions)
+      go false h = and-false (list_any (begins_in has.span) queries)
 
 -- ---- changes
 

@@ -15,7 +15,7 @@ use Rattle.desk_store.proofs.lemmas.Order.{is_equal, all_weaker}
 use Rattle.row_codec.specs.Tables.{AreSpanRows}
 use Rattle.desk_store.specs.Content.{IsPlan, IsContent}
 use Rattle.row_codec.specs.Records.{IsOperator, IsFiled}
-use Rattle.row_codec.specs.ContentRows.{AreOperatorRows, ArePlanRows, AreShared}
+use Rattle.row_codec.specs.ContentRows.{AreOperatorRows, ArePlanRows, HaveOperatorsAndRoom}
 use Rattle.table_load.specs.Opening.{AreAgreed, AreRows}
 use Rattle.table_load.proofs.lemmas.Content.{one_operators, one_plans}
 use Rattle.row_codec.proofs.lemmas.Plan.{plans_within}
@@ -103,8 +103,8 @@ module _ (one_shape : (one other : Shape) → HasValidParts one → HasValidPart
       let two = sym (same_plans w h are) in record {
         names = subst (IsStrictlySortedBy listed_cmp) one h.world.operators;
         keys = subst (IsStrictlySortedBy filed_cmp) two h.world.plans;
-        shared = subst (λ ks. AreShared ks ps) one
-            (subst (AreShared w.operators) two (record
+        shared = subst (λ ks. HaveOperatorsAndRoom ks ps) one
+            (subst (HaveOperatorsAndRoom w.operators) two (record
             { listed = h.world.listed; few = h.world.rows }));
         spans = subst (λ qs. AreSpanRows qs t.spans) two are.span_part;
       }

@@ -1,5 +1,5 @@
 use Rattle.std.proofs.Common.{◌≡◌, string_bytes}
-use Rattle.cell_picture.specs.Frame.{sum64, tall_of}
+use Rattle.cell_picture.specs.Frame.{sum64, pixel_height_of}
 use Rattle.cell_picture.specs.Picture.{face_text, opening_text, part_start, title_text}
 use Rattle.cell_picture.specs.declared.picture.TheConstants.{LEGEND_HEIGHT, STYLE}
 use Rattle.cell_picture.proofs.PictureLemmas.{five, pushed}
@@ -8,7 +8,7 @@ use Rattle.cell_picture.proofs.picture.picture_start.Goals as goal
 pub returns : goal.returns
 returns c =
     let frame = c.args.frame.now in
-    let opening = opening_text (sum64 (tall_of frame) LEGEND_HEIGHT) in
+    let opening = opening_text (sum64 (pixel_height_of frame) LEGEND_HEIGHT) in
     let begun : string_bytes c.in_ok-text.text ≡ opening =
     rw (← c.pixel_height.ensures, ← c.saturating_add.ensures) c.in_ok-text.ensures in
     five opening (title_text c.args.rect.now) STYLE.now (part_start frame) (face_text frame) _ _ _ _ _ begun

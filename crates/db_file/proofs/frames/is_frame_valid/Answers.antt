@@ -26,7 +26,7 @@ returns c =
       λ same. record {
         salt = salts_agree _ _ c.if-ne.ensures;
         page = λ none. c.if-number_at-eq0.false (c.number_at.ensures ∙ none);
-        sum = ours ∙ decides.0 same ∙ c.sum_at.ensures;
+        sum = ours ∙ decides.0 same ∙ c.checksum_at.ensures;
       },
-      λ passes. decides.1 (sym ours ∙ passes.sum ∙ sym c.sum_at.ensures),
+      λ passes. decides.1 (sym ours ∙ passes.sum ∙ sym c.checksum_at.ensures),
     )

@@ -2,7 +2,7 @@ use Rattle.std.proofs.Common.{◌≡◌, ◌<◌, ◌∙◌, drop, take, IfSome,
 use Rattle.std.specs.Io.KnownBytes.{Appends}
 use Rattle.sqlite_wal.specs.PageSize.{bytes_of}
 use Rattle.db_file.proofs.SumLemmas.{copies_more, copies_to_end}
-use Rattle.db_file.specs.Sums.{summed}
+use Rattle.db_file.specs.Sums.{with_checksum}
 use Rattle.db_file.proofs.sums.copy_pages.Goals as goal
 
 pub loop-preserved : goal.loop-preserved
@@ -17,7 +17,7 @@ loop-preserved g c =
           c.in_ok-copy_page.ensures.left)
           (subst (λ n. IfSome (g.R.Read.remaining c.loop.file)
           (λ it. Appends (g.W.Write.contents c.loop.output) (g.W.Write.contents c.copy_page.new.output)
-          (summed (take n it)))) size c.in_ok-copy_page.ensures.copied)
+          (with_checksum (take n it)))) size c.in_ok-copy_page.ensures.copied)
           c.loop.invariant.copied;
     }
 

@@ -1,7 +1,7 @@
 use Rattle.std.proofs.Common.{◌≡◌, ◌<◌, ◌∙◌, arith, drop, take, IfSome, Some, rules, subst}
 use Rattle.sqlite_wal.specs.PageSize.{bytes_of}
 use Rattle.db_file.proofs.SumLemmas.{counts_more, counts_to_end}
-use Rattle.db_file.specs.Sums.{unsummed_page}
+use Rattle.db_file.specs.Sums.{bad_checksums_in_page}
 use Rattle.db_file.proofs.sums.count_bad_in.Goals as goal
 
 pub loop-preserved : goal.loop-preserved
@@ -17,7 +17,7 @@ loop-preserved g c =
           (λ it. g.R.Read.remaining c.count_bad_page.new.file ≡ Some (drop n it))) size
           c.in_ok-bad_count.ensures.left)
           (subst (λ n. IfSome (g.R.Read.remaining c.loop.file)
-          (λ it. one ≡ unsummed_page (take n it))) size c.in_ok-bad_count.ensures.counted)
+          (λ it. one ≡ bad_checksums_in_page (take n it))) size c.in_ok-bad_count.ensures.counted)
           c.loop.invariant.counted;
     }
 

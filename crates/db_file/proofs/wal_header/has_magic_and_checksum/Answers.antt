@@ -14,7 +14,7 @@ returns c =
         second = c.if-head-ne127.false;
         third = c.if-head-ne6.false;
         fourth = search rules;
-        sum = ours ∙ decides.0 same ∙ c.sum_at.ensures;
+        sum = ours ∙ decides.0 same ∙ c.checksum_at.ensures;
       },
-      λ signed. decides.1 (sym ours ∙ signed.sum ∙ sym c.sum_at.ensures),
+      λ signed. decides.1 (sym ours ∙ signed.sum ∙ sym c.checksum_at.ensures),
     )

@@ -4,7 +4,7 @@ use Rattle.desk_wire.specs.Passage.{course}
 use Rattle.desk_cli.specs.Lines.{file_of}
 use Rattle.host_files.specs.Naming.{Follows}
 use Rattle.host_files.specs.FolderSteps.{steps_of}
-use Rattle.desk_host.specs.Scratch.{AreTwins, making, scratch_of}
+use Rattle.desk_host.specs.Scratch.{AreScratchPaths, make_steps, scratch_of}
 use Rattle.desk_admin.specs.ScratchCopies.{IsTestReported}
 use Rattle.desk_admin.proofs.ScratchLemmas.{copied_from}
 use Rattle.desk_admin.proofs.scratch_copies.copy_by_scratch.Goals as goal
@@ -28,9 +28,9 @@ returns g c =
       until = g.P.Folder.steps copied.new.folder;
       reported = errors copied.new.writers.errors;
       file = ap file_of c.in-File.is;
-      made = subst (λ s. Follows steps (making source (scratch_of to) s)) c.is_mended.ensures
-          (subst (λ t. Follows steps (making source (scratch_of t) mended)) to_is
-          (subst (λ p. Follows steps (making p (scratch_of c.deref-2.result.now) mended)) path_is
+      made = subst (λ s. Follows steps (make_steps source (scratch_of to) s)) c.is_mended.ensures
+          (subst (λ t. Follows steps (make_steps source (scratch_of t) mended)) to_is
+          (subst (λ p. Follows steps (make_steps p (scratch_of c.deref-2.result.now) mended)) path_is
           c.in-Ok.ensures.made.1));
       copies = copied_from (image_at g.F.Start) (image_at g.N.Start) c.args.words.now.database
           (steps_of g.P.Folder made.folder copied.new.folder) copied.result.0
@@ -39,7 +39,7 @@ returns g c =
           c.in-Ok.ensures.quiet copied.ensures.copied;
       named = copied.ensures.named;
       own = copied.ensures.own;
-      removed = c.remove_scratch.ensures to (subst (λ t. AreTwins t c.in-Ok.scratch) to_is c.in-Ok.ensures.made.0);
+      removed = c.remove_scratch.ensures to (subst (λ t. AreScratchPaths t c.in-Ok.scratch) to_is c.in-Ok.ensures.made.0);
       noted = subst (λ p. IsTestReported p c.args.way copied.result.0.status
           (course (errors copied.new.writers.errors) (errors c.report_tested.new.errors))) reported_is
           c.report_tested.ensures;

@@ -2,7 +2,7 @@ use Rattle.std.proofs.Common.{codes, ◌++◌, ◌∙◌, ◌≡◌, subst}
 use Rattle.std.proofs.lemmas.Result.{IfErr-weaker}
 use Rattle.std.specs.Io.KnownBytes.{Appends}
 use Rattle.desk_cli.specs.Exits.{failure_word}
-use Rattle.desk_cli.specs.Written.{HasBegun}
+use Rattle.desk_cli.specs.Written.{IsPartlyWritten}
 use Rattle.desk_cli.proofs.WrittenLemmas.{begun_first, begun_next, begun_part, if_err}
 use Rattle.desk_cli.proofs.failure.write_failure.Goals as goal
 
@@ -20,7 +20,7 @@ returns-in_err-write_whole-2-clause-err g c =
     if_err _ (begun_next (codes "uss_desk: ") (failure_word c.args.failure ++ codes "\n") _ now after
     c.in_ok-write_whole.ensures.ok
     (begun_first (failure_word c.args.failure) (codes "\n") now after
-    (subst (λ w. HasBegun w now after) word (begun_part _ _ _ _ c.in_err-write_whole-2.ensures.err))))
+    (subst (λ w. IsPartlyWritten w now after) word (begun_part _ _ _ _ c.in_err-write_whole-2.ensures.err))))
 
 pub returns-clause-err : goal.returns-clause-err
 returns-clause-err g c =

@@ -5,7 +5,7 @@ use Rattle.desk_run.specs.DeskWorld.{world_of}
 use Rattle.desk_wire.specs.Passage.{passage}
 use Rattle.desk_wire.specs.Playing.{HasPlayed}
 use Rattle.desk_cli.specs.Exits.{EndsWith, ending}
-use Rattle.desk_program.specs.Enrolling.{AreListedSoFar, on_terms, with_operators}
+use Rattle.desk_program.specs.Enrolling.{AreEnrolledSoFar, on_terms, with_operators}
 use Rattle.desk_program.specs.Keeping.{AreKeptSoFar}
 use Rattle.desk_program.proofs.EndLemmas.{not_played}
 use Rattle.desk_program.proofs.KeepingLemmas.{run_kept}
@@ -22,7 +22,7 @@ returns-in-Err-clause-played g c =
     inr (not_played honest c.args.line.now end (g.R.Read.remaining c.args.input.now)
     (g.W.Write.contents c.args.output.now) w after c.in-Err.fault c.from.result c.from.ensures
     c.in-Err.ensures.fault (c.report_exit.ensures.status, c.report_exit.ensures.reported)
-    (subst (λ es. AreListedSoFar honest es (on_terms w c.args.line.now.desk.terms) after)
+    (subst (λ es. AreEnrolledSoFar honest es (on_terms w c.args.line.now.desk.terms) after)
     c.deref.ensures.value c.in-Err.ensures.listed))
 
 pub returns-in-Err-clause-kept : goal.returns-in-Err-clause-kept
@@ -36,7 +36,7 @@ returns-in-Err-clause-kept g c = λ p settled found may.
       not_played honest c.args.line.now end (g.R.Read.remaining c.args.input.now)
           (g.W.Write.contents c.args.output.now) w after c.in-Err.fault c.from.result c.from.ensures
           c.in-Err.ensures.fault (c.report_exit.ensures.status, c.report_exit.ensures.reported)
-          (subst (λ es. AreListedSoFar honest es (on_terms w c.args.line.now.desk.terms) after)
+          (subst (λ es. AreEnrolledSoFar honest es (on_terms w c.args.line.now.desk.terms) after)
           c.deref.ensures.value c.in-Err.ensures.listed),
       subst (λ es. AreKeptSoFar honest es (on_terms w c.args.line.now.desk.terms) after found)
           c.deref.ensures.value (c.in-Err.ensures.kept p settled found may),

@@ -2,15 +2,15 @@ use Rattle.std.proofs.Common.{Option, subst}
 use Rattle.desk_store.specs.World.{World}
 use Rattle.desk_store.specs.StoreFaults.{IsHonest}
 use Rattle.desk_run.specs.DeskWorld.{IsSettled, world_of}
-use Rattle.desk_program.specs.Enrolling.{HasListed}
-use Rattle.desk_program.specs.Keeping.{FindsListed}
+use Rattle.desk_program.specs.Enrolling.{HasEnrolled}
+use Rattle.desk_program.specs.Keeping.{FindsEnrolments}
 use Rattle.desk_program.proofs.KeepingLemmas.{settled_news}
 use Rattle.desk_program.proofs.program.set_up.Goals as goal
 
 pub returns-clause-listed : goal.returns-clause-listed
 returns-clause-listed g c =
     let after = c.enrol_all.new.desk in
-    subst (λ d. HasListed (IsHonest (g.S.PlanStore.doubt after.store)) c.enrol_all.result
+    subst (λ d. HasEnrolled (IsHonest (g.S.PlanStore.doubt after.store)) c.enrol_all.result
     c.args.enrolments.now (world_of g.S.PlanStore.content d) (world_of g.S.PlanStore.content after))
     c.set_terms.ensures c.enrol_all.ensures.listed
 
@@ -20,7 +20,7 @@ returns-clause-kept g c = λ p.
     let mid = c.set_terms.new.self in
     subst (λ d. IsSettled g.S.PlanStore.content g.S.PlanStore.may_leave d
     → (found : Option World) → g.S.PlanStore.may_leave after.store found
-    → FindsListed (IsHonest (g.S.PlanStore.doubt after.store)) c.enrol_all.result c.args.enrolments.now
+    → FindsEnrolments (IsHonest (g.S.PlanStore.doubt after.store)) c.enrol_all.result c.args.enrolments.now
     (world_of g.S.PlanStore.content d) (world_of g.S.PlanStore.content after) found) c.set_terms.ensures
     (settled_news (IsHonest (g.S.PlanStore.doubt after.store)) c.enrol_all.result c.args.enrolments.now
     (world_of g.S.PlanStore.content mid) (world_of g.S.PlanStore.content after)

@@ -3,8 +3,8 @@ use Rattle.desk_store.specs.StoreFaults.{IsHonest}
 use Rattle.desk_store.proofs.lemmas.Fault.{was_honest}
 use Rattle.desk_run.specs.DeskWorld.{world_of}
 use Rattle.desk_cli.specs.Exits.{enrolment_failure, failure_at}
-use Rattle.desk_program.specs.Enrolling.{AreEnrolled, AreListedSoFar}
-use Rattle.desk_program.specs.Keeping.{FindsNews}
+use Rattle.desk_program.specs.Enrolling.{AreEnrolled, AreEnrolledSoFar}
+use Rattle.desk_program.specs.Keeping.{FindsNewEnrolments}
 use Rattle.desk_program.specs.Recorded.{IsOpen}
 use Rattle.desk_program.specs.Serving.{Grows, arrived, parted}
 use Rattle.desk_program.proofs.CauseLemmas.{denied_counted, news_counted, served_counted}
@@ -45,10 +45,10 @@ returns-in_err-enrol_new-clause-kept g c =
     (stays (g.P.Port.traffic c.newly_enrolled.new.self))
     (inl (
       reported_breakdown fault (enrolment_failure fault) refl c.in_err-enrol_new.ensures.fault,
-      subst (λ es. AreListedSoFar honest es w after) c.deref.ensures.value c.in_err-enrol_new.ensures.listed,
+      subst (λ es. AreEnrolledSoFar honest es w after) c.deref.ensures.value c.in_err-enrol_new.ensures.listed,
     ))
     (λ p found may. unlisted_found c.enrol_new.result newly_enrolled w after before now
-    (subst (λ es. FindsNews c.enrol_new.result es w after before now) c.deref.ensures.value
+    (subst (λ es. FindsNewEnrolments c.enrol_new.result es w after before now) c.deref.ensures.value
     (c.enrol_new.ensures.found p)) found fault c.in_err-enrol_new.was may)
 
 pub returns-in_err-enrol_new-clause-cause : goal.returns-in_err-enrol_new-clause-cause
@@ -75,7 +75,7 @@ returns-in_err-client-clause-kept g c =
       subst (λ es. AreEnrolled honest es w after) c.deref.ensures.value c.in_ok-enrol_new.ensures.listed,
     ))
     (λ p found may. untaken_found c.enrol_new.result newly_enrolled w after before now
-    (subst (λ es. FindsNews c.enrol_new.result es w after before now) c.deref.ensures.value
+    (subst (λ es. FindsNewEnrolments c.enrol_new.result es w after before now) c.deref.ensures.value
     (c.enrol_new.ensures.found p)) found c.in_ok-enrol_new.field-0 c.in_ok-enrol_new.was may)
 
 pub returns-in_err-client-clause-cause : goal.returns-in_err-client-clause-cause
@@ -139,7 +139,7 @@ returns-clause-kept g c =
     c.serve_one-served.ensures.served
     c.exchange_result.ensures c.close-closed.ensures.recorded c.close-closed.ensures.fault
     (λ p found may. listed_found c.enrol_new.result newly_enrolled w listed before mid
-    (subst (λ es. FindsNews c.enrol_new.result es w listed before mid) c.deref.ensures.value
+    (subst (λ es. FindsNewEnrolments c.enrol_new.result es w listed before mid) c.deref.ensures.value
     (c.enrol_new.ensures.found (was p))) found c.in_ok-enrol_new.field-0 c.in_ok-enrol_new.was may)
     c.serve_one-served.ensures.kept.found
 

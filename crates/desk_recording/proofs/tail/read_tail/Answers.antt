@@ -1,10 +1,10 @@
 use Rattle.std.proofs.Common.{subst, sym}
-use Rattle.desk_recording.specs.Tail.{HasSaid}
+use Rattle.desk_recording.specs.Tail.{AreApplied}
 use Rattle.desk_recording.proofs.TailLemmas.{goes_on, none_said, unreported}
 use Rattle.desk_recording.proofs.tail.read_tail.Goals as goal
 
 pub loop-init : goal.loop-init
-loop-init g c = subst (HasSaid _ _) (sym c.empty-tail.ensures) (none_said
+loop-init g c = subst (AreApplied _ _) (sym c.empty-tail.ensures) (none_said
     (g.R.Read.remaining c.args.input.now))
 
 pub loop-preserved : goal.loop-preserved

@@ -1,7 +1,7 @@
-use Rattle.desk_recording.specs.Tail.{HasSaid, tail_shown}
-use Rattle.desk_recording.proofs.tail.read_tail.Given as goal
+use Rattle.desk_recording.specs.Tail.{AreApplied, tail_shown}
+use Rattle.desk_recording.proofs.tail.read_tail.BufferedRequest as goal
 
 -- the entries so far are noted
 abbrev pub invariant-loop : goal.invariant-loop
 invariant-loop g l =
-    HasSaid (g.R.Read.remaining l.fn.input) (g.R.Read.remaining l.input) (tail_shown l.tail)
+    AreApplied (g.R.Read.remaining l.fn.input) (g.R.Read.remaining l.input) (tail_shown l.tail)

@@ -1,5 +1,5 @@
 use Rattle.std.proofs.Common.{◌<◌, ◌++◌, IfSome, refl, sym, ap, subst, ◌∙◌, length}
-use Rattle.desk_wire.specs.Streams.{IsCut, front_read, front_reading, size_said, with_body}
+use Rattle.desk_wire.specs.Streams.{IsCut, front_parsed, front_result, size_or_zero, with_body}
 use Rattle.desk_wire.proofs.FrontLemmas.{some_count, reported_cut_body}
 use Rattle.desk_wire.proofs.ServeLemmas.{received, stopped_so, taken_so}
 use Rattle.desk_wire.proofs.stream.receive_request.Goals as goal
@@ -9,8 +9,8 @@ returns-in_err-body-clause-fault g c =
     let head = c.in_ok-head.head.items in
     let some = some_count c.in_ok-head.head.len (length head) c.if-is_empty.ensures
     (sym c.in_ok-head.head.ok.0) in
-    let front = c.parse_front.ensures ∙ ap front_read c.deref.ensures.value in
-    let size = c.body_size.ensures ∙ ap size_said front in
+    let front = c.parse_front.ensures ∙ ap front_parsed c.deref.ensures.value in
+    let size = c.body_size.ensures ∙ ap size_or_zero front in
     stopped_so (IfSome (g.R.Read.remaining c.receive_head.new.input) (λ rest. length rest < c.body_size.result))
     (IfSome (g.R.Read.remaining c.args.input.now) IsCut)
     c.from_residual-in_err-body.result c.in_err-body.field-0.0
@@ -26,10 +26,10 @@ returns-clause-taken g c =
     let body = c.in_ok-body.body.items in
     let some = some_count c.in_ok-head.head.len (length head) c.if-is_empty.ensures
     (sym c.in_ok-head.head.ok.0) in
-    let front = c.parse_front.ensures ∙ ap front_read c.deref.ensures.value in
+    let front = c.parse_front.ensures ∙ ap front_parsed c.deref.ensures.value in
     let got = received (g.R.Read.remaining c.args.input.now) (g.R.Read.remaining c.receive_head.new.input)
-    (g.R.Read.remaining c.receive_body.new.input) head body (front_reading c.parse_front.result)
-    (with_body (front_reading c.parse_front.result) body)
+    (g.R.Read.remaining c.receive_body.new.input) head body (front_result c.parse_front.result)
+    (with_body (front_result c.parse_front.result) body)
     c.in_ok-head.ensures.taken (c.in_ok-head.ensures.front some) front c.in_ok-body.ensures.taken
     (c.in_ok-body.ensures.size ∙ c.body_size.ensures) refl in
     taken_so (λ v. v.items) c.append_body.result (g.R.Read.remaining c.args.input.now)

@@ -3,7 +3,7 @@ use Rattle.std.specs.Result.{is_ok}
 use Rattle.request_parser.specs.Messages.{message_read}
 use Rattle.desk_store.specs.StoreFaults.{IsHonest}
 use Rattle.desk_run.specs.DeskWorld.{world_of}
-use Rattle.desk_wire.specs.Streams.{front_read, front_reading, size_said, with_body}
+use Rattle.desk_wire.specs.Streams.{front_parsed, front_result, size_or_zero, with_body}
 use Rattle.desk_wire.proofs.FrontLemmas.{some_count, reported_cut_body}
 use Rattle.desk_wire.specs.RequestsKept.{IsCertain}
 use Rattle.desk_wire.specs.Failing.{desk_fault}
@@ -18,8 +18,8 @@ returns-in_err-body-clause-served g c =
     let text = c.in_ok-text.text.items in
     let some = some_count c.in_ok-text.text.len (length text) c.if-is_empty.ensures
     (sym c.in_ok-text.text.ok.0) in
-    let front = c.parse_front-front.ensures ∙ ap front_read c.deref.ensures.value in
-    let size = c.body_size.ensures ∙ ap size_said front in
+    let front = c.parse_front-front.ensures ∙ ap front_parsed c.deref.ensures.value in
+    let size = c.body_size.ensures ∙ ap size_or_zero front in
     stopped _ (IfSome (g.R.Read.remaining c.receive_head.new.input) (λ rest. length rest < c.body_size.result))
     c.from_residual-in_err-body.result c.in_err-body.field-0.0 (g.R.Read.remaining c.args.input.now) _ _ _
     _
@@ -35,11 +35,11 @@ returns-in_err-write_whole-clause-served g c =
     let body = c.in_ok-body.body.items in
     let some = some_count c.in_ok-text.text.len (length text) c.if-is_empty.ensures
     (sym c.in_ok-text.text.ok.0) in
-    let front = c.parse_front-front.ensures ∙ ap front_read c.deref.ensures.value in
-    let message = c.attach_body-request.ensures ∙ ap (with_body (front_reading c.parse_front-front.result))
+    let front = c.parse_front-front.ensures ∙ ap front_parsed c.deref.ensures.value in
+    let message = c.attach_body-request.ensures ∙ ap (with_body (front_result c.parse_front-front.result))
     c.deref-2.ensures.value in
     let got = received (g.R.Read.remaining c.args.input.now) (g.R.Read.remaining c.receive_head.new.input)
-    (g.R.Read.remaining c.receive_body.new.input) text body (front_reading c.parse_front-front.result)
+    (g.R.Read.remaining c.receive_body.new.input) text body (front_result c.parse_front-front.result)
     (message_read c.attach_body-request.result)
     c.in_ok-text.ensures.taken (c.in_ok-text.ensures.front some) front c.in_ok-body.ensures.taken
     (c.in_ok-body.ensures.size ∙ c.body_size.ensures) message in
@@ -62,11 +62,11 @@ returns-clause-served g c =
     let body = c.in_ok-body.body.items in
     let some = some_count c.in_ok-text.text.len (length text) c.if-is_empty.ensures
     (sym c.in_ok-text.text.ok.0) in
-    let front = c.parse_front-front.ensures ∙ ap front_read c.deref.ensures.value in
-    let message = c.attach_body-request.ensures ∙ ap (with_body (front_reading c.parse_front-front.result))
+    let front = c.parse_front-front.ensures ∙ ap front_parsed c.deref.ensures.value in
+    let message = c.attach_body-request.ensures ∙ ap (with_body (front_result c.parse_front-front.result))
     c.deref-2.ensures.value in
     let got = received (g.R.Read.remaining c.args.input.now) (g.R.Read.remaining c.receive_head.new.input)
-    (g.R.Read.remaining c.receive_body.new.input) text body (front_reading c.parse_front-front.result)
+    (g.R.Read.remaining c.receive_body.new.input) text body (front_result c.parse_front-front.result)
     (message_read c.attach_body-request.result)
     c.in_ok-text.ensures.taken (c.in_ok-text.ensures.front some) front c.in_ok-body.ensures.taken
     (c.in_ok-body.ensures.size ∙ c.body_size.ensures) message in
@@ -102,11 +102,11 @@ returns-in_err-answer-clause-kept g c =
     let body = c.in_ok-body.body.items in
     let some = some_count c.in_ok-text.text.len (length text) c.if-is_empty.ensures
     (sym c.in_ok-text.text.ok.0) in
-    let front = c.parse_front-front.ensures ∙ ap front_read c.deref.ensures.value in
-    let message = c.attach_body-request.ensures ∙ ap (with_body (front_reading c.parse_front-front.result))
+    let front = c.parse_front-front.ensures ∙ ap front_parsed c.deref.ensures.value in
+    let message = c.attach_body-request.ensures ∙ ap (with_body (front_result c.parse_front-front.result))
     c.deref-2.ensures.value in
     let got = received (g.R.Read.remaining c.args.input.now) (g.R.Read.remaining c.receive_head.new.input)
-    (g.R.Read.remaining c.receive_body.new.input) text body (front_reading c.parse_front-front.result)
+    (g.R.Read.remaining c.receive_body.new.input) text body (front_result c.parse_front-front.result)
     (message_read c.attach_body-request.result)
     c.in_ok-text.ensures.taken (c.in_ok-text.ensures.front some) front c.in_ok-body.ensures.taken
     (c.in_ok-body.ensures.size ∙ c.body_size.ensures) message in
@@ -126,11 +126,11 @@ returns-in_err-write_whole-clause-kept g c =
     let body = c.in_ok-body.body.items in
     let some = some_count c.in_ok-text.text.len (length text) c.if-is_empty.ensures
     (sym c.in_ok-text.text.ok.0) in
-    let front = c.parse_front-front.ensures ∙ ap front_read c.deref.ensures.value in
-    let message = c.attach_body-request.ensures ∙ ap (with_body (front_reading c.parse_front-front.result))
+    let front = c.parse_front-front.ensures ∙ ap front_parsed c.deref.ensures.value in
+    let message = c.attach_body-request.ensures ∙ ap (with_body (front_result c.parse_front-front.result))
     c.deref-2.ensures.value in
     let got = received (g.R.Read.remaining c.args.input.now) (g.R.Read.remaining c.receive_head.new.input)
-    (g.R.Read.remaining c.receive_body.new.input) text body (front_reading c.parse_front-front.result)
+    (g.R.Read.remaining c.receive_body.new.input) text body (front_result c.parse_front-front.result)
     (message_read c.attach_body-request.result)
     c.in_ok-text.ensures.taken (c.in_ok-text.ensures.front some) front c.in_ok-body.ensures.taken
     (c.in_ok-body.ensures.size ∙ c.body_size.ensures) message in
@@ -154,11 +154,11 @@ returns-clause-kept g c =
     let body = c.in_ok-body.body.items in
     let some = some_count c.in_ok-text.text.len (length text) c.if-is_empty.ensures
     (sym c.in_ok-text.text.ok.0) in
-    let front = c.parse_front-front.ensures ∙ ap front_read c.deref.ensures.value in
-    let message = c.attach_body-request.ensures ∙ ap (with_body (front_reading c.parse_front-front.result))
+    let front = c.parse_front-front.ensures ∙ ap front_parsed c.deref.ensures.value in
+    let message = c.attach_body-request.ensures ∙ ap (with_body (front_result c.parse_front-front.result))
     c.deref-2.ensures.value in
     let got = received (g.R.Read.remaining c.args.input.now) (g.R.Read.remaining c.receive_head.new.input)
-    (g.R.Read.remaining c.receive_body.new.input) text body (front_reading c.parse_front-front.result)
+    (g.R.Read.remaining c.receive_body.new.input) text body (front_result c.parse_front-front.result)
     (message_read c.attach_body-request.result)
     c.in_ok-text.ensures.taken (c.in_ok-text.ensures.front some) front c.in_ok-body.ensures.taken
     (c.in_ok-body.ensures.size ∙ c.body_size.ensures) message in

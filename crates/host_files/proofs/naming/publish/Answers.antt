@@ -40,7 +40,7 @@ returns-clause-own g c to are =
     tt)
     (takes_both (takes_one (ChangesOwn to) _ _ c.rename.result _ c.rename.ensures
     (part ∙ are.part_is, new ∙ are.to_is) tt)
-    (takes_one (ChangesOwn to) _ _ c.sync.result _ c.sync.ensures tt tt))
+    (takes_one (ChangesOwn to) _ _ c.sync_parent.result _ c.sync_parent.ensures tt tt))
 
 pub returns-clause-failed : goal.returns-clause-failed
 returns-clause-failed g c is =
@@ -48,4 +48,4 @@ returns-clause-failed g c is =
     let renamed : c.rename.result ≡ true = search rules in
     failed_after _ _ _ _ (made_if _ _ _ c.remove.result c.remove.ensures removed)
     (failed_after _ _ _ _ (made_if _ _ _ c.rename.result c.rename.ensures renamed)
-    (failed_if _ _ _ c.sync.result c.sync.ensures is))
+    (failed_if _ _ _ c.sync_parent.result c.sync_parent.ensures is))

@@ -1,4 +1,4 @@
-use Rattle.live_index.proofs.HedgeLemmas.{round_begins, round_more}
+use Rattle.live_index.proofs.GroupBoxLemmas.{round_begins, round_more}
 use Rattle.live_index.proofs.group.join_of_boxes.Goals as goal
 
 pub loop-chunk-init : goal.loop-chunk-init

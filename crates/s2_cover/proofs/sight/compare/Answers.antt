@@ -1,7 +1,7 @@
 use Rattle.std.proofs.Common.{◌≡◌, subst, sym}
 use Rattle.s2_hilbert.specs.Grid.{side_of}
 use Rattle.s2_cover.specs.Rectangles.{WideParts, is_along, wide_set}
-use Rattle.s2_cover.specs.Walking.{Saw, SawSquare}
+use Rattle.s2_cover.specs.Walking.{IsRangeOverlap, IsSquareOverlap}
 use Rattle.s2_cover.proofs.Sights.{some_span, square_seen}
 use Rattle.s2_cover.proofs.sight.compare.Goals as goal
 
@@ -15,19 +15,19 @@ compare_range-requires-2-clause-span c =
     let square = c.args.square.now in
     some_span square.level square.b c.j_span.result.0 c.j_span.result.1 c.j_span.ensures.span
 
-pub returns-clause-saw : goal.returns-clause-saw
-returns-clause-saw c =
+pub returns-clause-is_overlap : goal.returns-clause-is_overlap
+returns-clause-is_overlap c =
     let wide : WideParts = c.args.wide.now in
     let square = c.args.square.now in
     let side = c.side_of-side.result in
     let i = c.i_span.result in
     let j = c.j_span.result in
     let sides = subst (λ w. side ≡ side_of w.level) c.wide.view_is c.side_of-side.ensures.value in
-    let i_saw = subst (λ w. Saw i.0 i.1 (is_along side w.a_min w.a_max) c.compare_range.result) c.wide.view_is
-    c.compare_range.ensures.saw in
-    let j_saw = subst (λ w. Saw j.0 j.1 (is_along side w.b_min w.b_max) c.compare_range-2.result) c.wide.view_is
-    c.compare_range-2.ensures.saw in
-    subst (λ sight. SawSquare (wide_set wide) wide.level square sight) (sym c.combine.ensures)
+    let i_saw = subst (λ w. IsRangeOverlap i.0 i.1 (is_along side w.a_min w.a_max) c.compare_range.result) c.wide.view_is
+    c.compare_range.ensures.is_overlap in
+    let j_saw = subst (λ w. IsRangeOverlap j.0 j.1 (is_along side w.b_min w.b_max) c.compare_range-2.result) c.wide.view_is
+    c.compare_range-2.ensures.is_overlap in
+    subst (λ sight. IsSquareOverlap (wide_set wide) wide.level square sight) (sym c.combine.ensures)
     (square_seen wide square i.0 i.1 j.0 j.1 side c.compare_range.result c.compare_range-2.result sides c.requires.square
     c.requires.face c.requires.level
     (record {

@@ -3,18 +3,18 @@ use Rattle.s2_cover.proofs.Sights.{after_all, within_all, across_low, across_hig
 use Rattle.s2_cover.proofs.sight.compare_range.Goals as goal
 use Rattle.s2_cover.proofs.sight.compare_range.Goals.{else-least-low-via-then-least-low+else-high-greatest, else-least-low-via-else-least-low}
 
-pub returns-then-greatest-low-clause-saw : goal.returns-then-greatest-low-clause-saw
-returns-then-greatest-low-clause-saw c =
+pub returns-then-greatest-low-clause-is_overlap : goal.returns-then-greatest-low-clause-is_overlap
+returns-then-greatest-low-clause-is_overlap c =
     after_all c.args.side c.args.least c.args.greatest c.args.span.0 c.args.span.1 c.requires.side
     c.if-greatest-low.true
 
-pub returns-then-high-greatest-clause-saw : goal.returns-then-high-greatest-clause-saw
-returns-then-high-greatest-clause-saw c =
+pub returns-then-high-greatest-clause-is_overlap : goal.returns-then-high-greatest-clause-is_overlap
+returns-then-high-greatest-clause-is_overlap c =
     within_all c.args.side c.args.least c.args.greatest c.args.span.0 c.args.span.1 c.requires.side
     c.if-least-low.true c.if-high-greatest.true
 
-pub returns-clause-saw : goal.returns-clause-saw
-returns-clause-saw c = elim c.else-least-low.branch [
+pub returns-clause-is_overlap : goal.returns-clause-is_overlap
+returns-clause-is_overlap c = elim c.else-least-low.branch [
   | else-least-low-via-then-least-low+else-high-greatest w ↦
       across_high c.args.side c.args.least c.args.greatest c.args.span.0 c.args.span.1 c.requires.span
       w.if-least-low.true (omega (arith, c.if-greatest-low.false))

@@ -34,7 +34,7 @@ overflow_add-place-in-loop-step c =
 pub loop-step-preserved : goal.loop-step-preserved
 loop-step-preserved c =
     let digit = 7 - 1 - c.loop-step.step in
-    let four = c.place_of_four-four in
+    let four = c.place_four_levels_down-four in
     let pair_is = c.pair_at.ensures.value ∙ c.paired_digits-digits.ensures digit (omega arith) in
     rw (c.from-in-loop-step.ensures, c.from-row-in-loop-step.ensures)
     (fours_go_on c.args.turn c.args.i c.args.j c.loop-step.step c.loop-step.row c.loop-step.place digit

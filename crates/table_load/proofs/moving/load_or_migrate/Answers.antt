@@ -22,9 +22,9 @@ pub returns-then-old-clause-opened : goal.returns-then-old-clause-opened
 returns-then-old-clause-opened g c =
     let mid = c.find_desk_tables.new.connection in
     let rows : Holds g.S.Store mid (HasRowsOld c.in_ok-made.made true) = search rules in
-    moved_after g.S.Store c.args.connection.now mid c.move_tables.new.connection c.in_ok-made.made
-    (λ moved. moved.0.world) (λ moved. moved.2) c.move_tables.result c.in_ok-made.ensures.reads
-    c.in_ok-made.ensures.part rows c.move_tables.ensures.set_up
+    moved_after g.S.Store c.args.connection.now mid c.migrate_tables.new.connection c.in_ok-made.made
+    (λ moved. moved.0.world) (λ moved. moved.2) c.migrate_tables.result c.in_ok-made.ensures.reads
+    c.in_ok-made.ensures.part rows c.migrate_tables.ensures.set_up
 
 pub returns-in_err-kept-clause-opened : goal.returns-in_err-kept-clause-opened
 returns-in_err-kept-clause-opened g c =
@@ -78,9 +78,9 @@ pub returns-then-old-clause-crash : goal.returns-then-old-clause-crash
 returns-then-old-clause-crash g c =
     let a = c.args.connection.now in
     let b = c.find_desk_tables.new.connection in
-    let new = c.move_tables.new.connection in
-    becomes_since g.S.Store IsMovedOn a b new c.find_desk_tables.ensures.reads c.move_tables.ensures.set_up.doubt
-    (becomes_weaker g.S.Store IsMovedOn IsMovedAs (λ was db it. inr it) b new c.move_tables.ensures.crash)
+    let new = c.migrate_tables.new.connection in
+    becomes_since g.S.Store IsMovedOn a b new c.find_desk_tables.ensures.reads c.migrate_tables.ensures.set_up.doubt
+    (becomes_weaker g.S.Store IsMovedOn IsMovedAs (λ was db it. inr it) b new c.migrate_tables.ensures.crash)
 
 pub returns-in_err-made-clause-crash : goal.returns-in_err-made-clause-crash
 returns-in_err-made-clause-crash g c =

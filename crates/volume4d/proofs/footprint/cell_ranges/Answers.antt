@@ -10,7 +10,7 @@ returns-clause-ok c =
     let cells = c.args.cells.now in
     let spans = c.in_ok-ranges.ranges in
     let count : within_cells (length cells) ≡ true =
-    grind (arith, c.is_count.ensures, c.if-not-is_count.false) in
+    grind (arith, c.is_allowed_count.ensures, c.if-not-is_allowed_count.false) in
     let some : 0 < length cells = grind (arith, nat_tests, count) in
     let most : length cells ≤ max_cells = grind (arith, nat_tests, count) in
     let ranges = c.in_ok-ranges.ensures.same (leaves_of cells) c.in_ok-normalise.ensures.leaves in

@@ -1,5 +1,5 @@
 use Rattle.std.proofs.Common.{Some, subst, true}
-use Rattle.desk_program.specs.Serving.{Denies, TakesArrival, arrived}
+use Rattle.desk_program.specs.Serving.{AddsNothingNew, TakesArrival, arrived}
 use Rattle.desk_recording.specs.Reporting.{reported_by}
 use Rattle.desk_recording.proofs.StepLemmas.{none_taken, takes_one}
 use Rattle.desk_recording.proofs.port.RecordedPortPort.take.Goals as goal
@@ -23,7 +23,7 @@ pub returns-in-Err-append_request-clause-same : goal.returns-in-Err-append_reque
 returns-in-Err-append_request-clause-same g c =
     let old = c.args.self.now.journal in
     let new = c.append_request.new.self in
-    subst (λ b. Denies (reported_by g.R.Record old b) (reported_by g.R.Record new true)) c.if-is_some.ensures
+    subst (λ b. AddsNothingNew (reported_by g.R.Record old b) (reported_by g.R.Record new true)) c.if-is_some.ensures
     (none_taken (g.R.Record.steps old) (g.R.Record.steps new) (g.R.Record.noted old) (g.R.Record.noted new)
     c.in-Ok.taken.moment.second c.deref.result.now c.in-Err-append_request.ensures.steps
     c.in-Err-append_request.ensures.noted)

@@ -1,7 +1,7 @@
 use Rattle.std.proofs.Common.{[], ◌∷◌, filter, map, IsPermutation, w64}
 use Rattle.std.proofs.lemmas.Int.{to_z-of_z}
 use Rattle.sqlite.specs.Held.{state}
-use Rattle.desk_sql.specs.Rows.{held_columns, tables_of, Lists}
+use Rattle.desk_sql.specs.Rows.{columns_from_first, tables_of, Lists}
 use Rattle.desk_sql.specs.Others.{is_others_from}
 use Rattle.desk_sql.proofs.HandLemmas.{cut_short_of}
 use Rattle.desk_sql.proofs.TakingLemmas.{handed_as}
@@ -10,7 +10,7 @@ use Rattle.desk_sql.proofs.reading.others.other_spans.Goals as goal
 pub returns-clause-answers : goal.returns-clause-answers
 returns-clause-answers g c =
     let same = to_z-of_z w64 c.args.low c.ranges.low in
-    let wanted = map held_columns
+    let wanted = map columns_from_first
     (filter (is_others_from c.args.operator.now c.args.span_filter c.args.low)
     (tables_of (state g.S.Store c.args.connection.now).now.trees).spans) in record {
       value = λ clean. handed_as (Lists (0 ∷ []) wanted) (IsPermutation wanted)

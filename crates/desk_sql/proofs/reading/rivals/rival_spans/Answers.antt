@@ -1,7 +1,7 @@
 use Rattle.std.proofs.Common.{[], ◌∷◌, filter, map, IsPermutation, w64}
 use Rattle.std.proofs.lemmas.Int.{to_z-of_z}
 use Rattle.sqlite.specs.Held.{state}
-use Rattle.desk_sql.specs.Rows.{is_wanted, held_columns, tables_of, Lists}
+use Rattle.desk_sql.specs.Rows.{is_rival_from, columns_from_first, tables_of, Lists}
 use Rattle.desk_sql.proofs.HandLemmas.{cut_short_of}
 use Rattle.desk_sql.proofs.TakingLemmas.{handed_as}
 use Rattle.desk_sql.proofs.reading.rivals.rival_spans.Goals as goal
@@ -9,8 +9,8 @@ use Rattle.desk_sql.proofs.reading.rivals.rival_spans.Goals as goal
 pub returns-clause-answers : goal.returns-clause-answers
 returns-clause-answers g c =
     let same = to_z-of_z w64 c.args.low c.ranges.low in
-    let wanted = map held_columns
-    (filter (is_wanted c.args.operator.now c.args.id.now c.args.span_filter c.args.low)
+    let wanted = map columns_from_first
+    (filter (is_rival_from c.args.operator.now c.args.id.now c.args.span_filter c.args.low)
     (tables_of (state g.S.Store c.args.connection.now).now.trees).spans) in record {
       value = λ clean. handed_as (Lists (0 ∷ []) wanted) (IsPermutation wanted)
           (g.T.RowVisitor.has_taken c.for_each_row.new.visitor) (λ rows lists. lists.same) c.for_each_row.result

@@ -28,7 +28,7 @@ returns-in-Ok-clause-crash g c = λ honest.
     let change = c.args.change.now in
     subst (λ s. LeavesOldOr (changed_by change s.world) (MayLeave g.S.Store s.held)
     (MayLeave g.S.Store new.held)) c.self.view_is
-    (leaves_or_changed c.one_content.ensures g.S.Store old.held new.held (changed_by change old.world)
+    (leaves_or_changed c.one_state.ensures g.S.Store old.held new.held (changed_by change old.world)
     c.make.ensures.made.crash honest)
 
 pub returns-in-Ok-clause-kept : goal.returns-in-Ok-clause-kept
@@ -50,5 +50,5 @@ returns-clause-crash g c = λ honest.
     let change = c.args.change.now in
     subst (λ s. LeavesOldOr (changed_by change s.world) (MayLeave g.S.Store s.held)
     (MayLeave g.S.Store new.held)) c.self.view_is
-    (leaves_or_changed c.one_content.ensures g.S.Store old.held new.held (changed_by change old.world)
+    (leaves_or_changed c.one_state.ensures g.S.Store old.held new.held (changed_by change old.world)
     c.make.ensures.made.crash honest)

@@ -1,7 +1,7 @@
 use Rattle.std.proofs.Common.{refl, subst, sym, arith, filter, map, IsPermutation}
 use Rattle.sqlite.specs.Held.{state}
-use Rattle.desk_sql.specs.Rows.{tables_of, held_columns}
-use Rattle.desk_sql.specs.Others.{is_plans}
+use Rattle.desk_sql.specs.Rows.{tables_of, columns_from_first}
+use Rattle.desk_sql.specs.Others.{is_plan_span}
 use Rattle.desk_store.proofs.lemmas.Parse.{parsed_id}
 use Rattle.desk_tables.specs.Causes.{BlamesSpans}
 use Rattle.row_codec.specs.RivalRows.{HasTakenHelds, span_filter_of}
@@ -22,12 +22,12 @@ returns-clause-read g c =
           (let (rows, by_texts, taken) = handed in
           let spans = (tables_of (state g.S.Store old).now.trees).spans in
           let reach = span_filter_of c.args.extent.now c.args.least in
-          let reached = subst (λ r. IsPermutation (map held_columns (filter (is_plans c.as_str.result.now
+          let reached = subst (λ r. IsPermutation (map columns_from_first (filter (is_plan_span c.as_str.result.now
           c.encode-id.result.now r) spans)) rows) c.span_filter_of-span_filter.ensures by_texts in
-          let named = subst (λ name. IsPermutation (map held_columns
-          (filter (is_plans name c.encode-id.result.now reach) spans)) rows) c.as_str.ensures.value reached in
-          let mine = subst (λ id. IsPermutation (map held_columns
-          (filter (is_plans c.args.key.now.operator id reach) spans)) rows) c.encode-id.ensures.text named in
+          let named = subst (λ name. IsPermutation (map columns_from_first
+          (filter (is_plan_span name c.encode-id.result.now reach) spans)) rows) c.as_str.ensures.value reached in
+          let mine = subst (λ id. IsPermutation (map columns_from_first
+          (filter (is_plan_span c.args.key.now.operator id reach) spans)) rows) c.encode-id.ensures.text named in
           weaker c.slabs_if_read.result
           (λ helds are. (rows, mine, subst (λ hs. HasTakenHelds hs rows) (sym are) taken))
           c.slabs_if_read.ensures.value));

@@ -3,7 +3,7 @@ use Rattle.row_codec.specs.RivalRows.{is_asked}
 use Rattle.desk_tables.proofs.AskingLemmas.{IsAsking}
 use Rattle.desk_tables.proofs.tables.DeskTables.query_all.Given as goal
 
-abbrev pub invariant-loop-question : goal.invariant-loop-question
-invariant-loop-question g l =
-    IsAsking g.S.Store l.fn.self l.self (is_asked l.wanted l.extent) (take l.question-index l.questions)
+abbrev pub invariant-loop-query : goal.invariant-loop-query
+invariant-loop-query g l =
+    IsAsking g.S.Store l.fn.self l.self (is_asked l.wanted l.extent) (take l.query-index l.queries)
     l.helds.items

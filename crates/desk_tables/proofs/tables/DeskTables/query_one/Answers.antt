@@ -3,7 +3,7 @@ use mir.Val.{to_z, of_z}
 use Rattle.std.proofs.lemmas.Int.{to_z_pos}
 use Rattle.std.proofs.Common.{IfOk, pos, refl, subst, sym, arith, filter, map, IsPermutation}
 use Rattle.sqlite.specs.Held.{state}
-use Rattle.desk_sql.specs.Rows.{tables_of, held_columns, is_wanted}
+use Rattle.desk_sql.specs.Rows.{tables_of, columns_from_first, is_rival_from}
 use Rattle.desk_sql.specs.Others.{is_others_from}
 use Rattle.desk_tables.specs.Causes.{BlamesSpans}
 use Rattle.row_codec.specs.RivalRows.{HasTakenHelds, HaveTaken, is_another_from, span_filter_from}
@@ -17,11 +17,11 @@ returns-in-Some-clause-read g c =
     let old = c.self.inside.connection in
     let new = c.rival_spans-queried.new.connection in
     let answers = c.rival_spans-queried.ensures.answers in
-    let question = c.args.question.now in
+    let query = c.args.query.now in
     let wanted = c.args.wanted.now in
     let spans = (tables_of (state g.S.Store old).now.trees).spans in
-    let reach = span_filter_from question c.args.extent.now wanted.least in
-    let first = pos question.first in
+    let reach = span_filter_from query c.args.extent.now wanted.least in
+    let first = pos query.first in
     rw (← c.self.view_is) (record {
       value = λ clean.
           subst (λ own. IfOk c.slabs_if_read.result (λ helds. HaveTaken
@@ -31,15 +31,15 @@ returns-in-Some-clause-read g c =
           (let (rows, by_texts, taken) = handed in
           let name = c.as_str-operator.result.now in
           let text = c.encode-text.result.now in
-          let reached = subst (λ r. IsPermutation (map held_columns (filter (is_wanted name text r
+          let reached = subst (λ r. IsPermutation (map columns_from_first (filter (is_rival_from name text r
           (to_z w64 (of_z w64 first))) spans)) rows) c.span_filter_from-span_filter.ensures by_texts in
-          let begun = subst (λ l. IsPermutation (map held_columns (filter
-          (is_wanted name text reach l) spans)) rows)
-          (to_z_pos w64 question.first (omega (arith, c.requires.0))) reached in
-          let named = subst (λ own. IsPermutation (map held_columns
-          (filter (is_wanted own text reach first) spans)) rows) c.as_str-operator.ensures.value begun in
-          let mine = subst (λ id. IsPermutation (map held_columns (filter
-          (is_wanted wanted.operator id reach first) spans)) rows) c.encode-text.ensures.text named in
+          let begun = subst (λ l. IsPermutation (map columns_from_first (filter
+          (is_rival_from name text reach l) spans)) rows)
+          (to_z_pos w64 query.first (omega (arith, c.requires.0))) reached in
+          let named = subst (λ own. IsPermutation (map columns_from_first
+          (filter (is_rival_from own text reach first) spans)) rows) c.as_str-operator.ensures.value begun in
+          let mine = subst (λ id. IsPermutation (map columns_from_first (filter
+          (is_rival_from wanted.operator id reach first) spans)) rows) c.encode-text.ensures.text named in
           weaker c.slabs_if_read.result
           (λ helds are. (rows, mine, subst (λ hs. HasTakenHelds hs rows) (sym are) taken))
           c.slabs_if_read.ensures.value)));
@@ -64,11 +64,11 @@ returns-in-None-clause-read g c =
     let old = c.self.inside.connection in
     let new = c.other_spans-queried.new.connection in
     let answers = c.other_spans-queried.ensures.answers in
-    let question = c.args.question.now in
+    let query = c.args.query.now in
     let wanted = c.args.wanted.now in
     let spans = (tables_of (state g.S.Store old).now.trees).spans in
-    let reach = span_filter_from question c.args.extent.now wanted.least in
-    let first = pos question.first in
+    let reach = span_filter_from query c.args.extent.now wanted.least in
+    let first = pos query.first in
     rw (← c.self.view_is) (record {
       value = λ clean.
           subst (λ own. IfOk c.slabs_if_read-in-None.result (λ helds. HaveTaken
@@ -77,12 +77,12 @@ returns-in-None-clause-read g c =
           (answers.value clean) (λ handed.
           (let (rows, by_texts, taken) = handed in
           let name = c.as_str-operator.result.now in
-          let reached = subst (λ r. IsPermutation (map held_columns (filter (is_others_from name r
+          let reached = subst (λ r. IsPermutation (map columns_from_first (filter (is_others_from name r
           (to_z w64 (of_z w64 first))) spans)) rows) c.span_filter_from-span_filter.ensures by_texts in
-          let begun = subst (λ l. IsPermutation (map held_columns (filter
+          let begun = subst (λ l. IsPermutation (map columns_from_first (filter
           (is_others_from name reach l) spans)) rows)
-          (to_z_pos w64 question.first (omega (arith, c.requires.0))) reached in
-          let mine = subst (λ own. IsPermutation (map held_columns
+          (to_z_pos w64 query.first (omega (arith, c.requires.0))) reached in
+          let mine = subst (λ own. IsPermutation (map columns_from_first
           (filter (is_others_from own reach first) spans)) rows) c.as_str-operator.ensures.value begun in
           weaker c.slabs_if_read-in-None.result
           (λ helds are. (rows, mine, subst (λ hs. HasTakenHelds hs rows) (sym are) taken))

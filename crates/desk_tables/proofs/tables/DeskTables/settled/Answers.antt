@@ -7,7 +7,7 @@ pub returns-clause-left : goal.returns-clause-left
 returns-clause-left g c =
     let connection = c.self.inside.connection in
     subst (λ t. IsSettledAt g.S.Store t.held t.world) c.self.view_is (λ clean live.
-    leaves_what_stands c.one_content.ensures g.S.Store connection c.self.inside.kept.world c.self.invariant
+    leaves_what_stands c.one_state.ensures g.S.Store connection c.self.inside.kept.world c.self.invariant
     clean live
     (c.committed_and_sound.ensures.settled c.self.invariant.settled live)
     (c.committed_and_sound.ensures.sound live).0

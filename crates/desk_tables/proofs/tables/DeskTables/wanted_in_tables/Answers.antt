@@ -16,17 +16,17 @@ returns g c =
           (λ helds opened taken.
           (let wanted = c.args.wanted.now in
           let extent = c.args.extent.now in
-          let questions = c.in_ok-questions.questions.items in
+          let queries = c.in_ok-queries.queries.items in
           let tables = tables_of (state g.S.Store c.args.self.now.held).now.trees in
           let live = opened (subst (λ (qs : List Span). 0 < length qs) (sym c.deref.ensures.value)
-          c.in_ok-questions.ensures.not_empty) in
+          c.in_ok-queries.ensures.not_empty) in
           let standing = c.allocator.ensures.standing (omega (arith, read.reads.doubt, clean)) live in
           let mine = subst (λ qs. HaveTakenAll (is_asked wanted extent) qs tables.spans helds.items)
           c.deref.ensures.value taken in
           are_wanted tables c.args.self.now.world wanted.operator wanted.id wanted.least extent
-          c.args.span_bounds.now questions helds.items c.id_is_valid.ensures
+          c.args.span_bounds.now queries helds.items c.id_is_valid.ensures
           standing.content standing.tables c.requires
-          c.in_ok-questions.ensures.complete c.in_ok-questions.ensures.within mine));
+          c.in_ok-queries.ensures.complete c.in_ok-queries.ensures.within mine));
       cause = read.cause;
       same = read.same;
       reads = read.reads;

@@ -2,12 +2,12 @@ use Rattle.std.proofs.Common.{subst, sym, ◌∙◌}
 use Rattle.std.proofs.lemmas.Result.{on_ok_weaker}
 use Rattle.slab_regions.specs.SearchArea.{sought_has}
 use Rattle.live_index.specs.Near.{AddsPlans}
-use Rattle.live_index.proofs.NearLemmas.{adds_fenced, adds_looked}
+use Rattle.live_index.proofs.NearLemmas.{adds_none_far, adds_looked}
 use Rattle.live_index.proofs.chunk.Chunk.add_near.Goals as goal
 
 pub returns-then-not-may_meet : goal.returns-then-not-may_meet
 returns-then-not-may_meet c =
-    adds_fenced c.args.wanted.now c.args.sought.now c.args.self.now.bbox c.args.self.now.volumes.items
+    adds_none_far c.args.wanted.now c.args.sought.now c.args.self.now.bbox c.args.self.now.volumes.items
     c.args.near.now (sym c.may_meet.ensures ∙ c.if-not-may_meet.true)
 
 pub returns : goal.returns

@@ -1,5 +1,5 @@
 use Rattle.std.proofs.Common.{◌/◌, ◌∙◌}
-use Rattle.live_index.proofs.HedgeLemmas.{halved}
+use Rattle.live_index.proofs.GroupBoxLemmas.{halved}
 use Rattle.live_index.proofs.group.Group.halve.Goals as goal
 
 pub returns-clause-same : goal.returns-clause-same

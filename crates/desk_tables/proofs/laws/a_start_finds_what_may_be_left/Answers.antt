@@ -1,5 +1,0 @@
-use Rattle.desk_tables.proofs.LeavingLemmas.{found_again}
-use Rattle.desk_tables.proofs.laws.a_start_finds_what_may_be_left.Goals as goal
-
-pub returns : goal.returns
-returns g c = found_again

@@ -1,5 +1,0 @@
-use Rattle.desk_tables.proofs.ChangeLemmas.{change_tables}
-use Rattle.desk_tables.proofs.laws.changed_rows_are_the_changed_content.Goals as goal
-
-pub returns : goal.returns
-returns c = change_tables
