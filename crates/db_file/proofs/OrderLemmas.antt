@@ -4,7 +4,7 @@ use Rattle.std.proofs.lemmas.List.{drop_at, get_or_append_left, take_at}
 use Rattle.sqlite_wal.specs.PageSize.{IsPageSize, size_in_file}
 use Rattle.std.specs.Fmt.{option_append}
 use Rattle.std.specs.Io.KnownBytes.{Appends, Consumes}
-use Rattle.db_file.specs.Header.{reserves_checksums}
+use Rattle.db_file.specs.Header.{has_checksum_space}
 use Rattle.db_file.specs.Orders.{has_other_order, mended, ordered, ordered_file, ordered_page, with_sums, are_moved, is_moved_by_name, is_slot_named, placed, placed_by_name, slot_from}
 
 less_one : (n k : ℕ) → k < n → n - k ≡ suc (n - (k + 1))
@@ -180,7 +180,7 @@ is_sized (Ok reported) (Some bytes) header says is = λ none. absurd (none (subs
 -- ---- a file that is copied as its header says
 
 sums_said : (bytes header rest : List ℕ) → length header ≡ 24 → bytes ≡ header ++ rest
-    → reserves_checksums bytes ≡ reserves_checksums header
+    → has_checksum_space bytes ≡ has_checksum_space header
 sums_said bytes header rest long took =
     let more = length-append header rest in
     let said = get_or_append_left header rest 0 20 (omega (arith, long)) in
@@ -189,10 +189,10 @@ sums_said bytes header rest long took =
 pub copied_as_said : {U E : Type 0} (done : Result U E) (known left whole : Option (List ℕ)) (header : List ℕ)
     (size len : ℕ) (sums : Bool) (out now : Option (List ℕ))
     → length header ≡ 24 → Consumes known left header → whole ≡ option_append (Some header) left
-    → size ≡ size_in_file header → sums ≡ reserves_checksums header
+    → size ≡ size_in_file header → sums ≡ has_checksum_space header
     → OnOk done (IfSome whole (λ bytes. length bytes ≡ len → Appends out now (mended sums size bytes)))
     → OnOk done (IfSome known (λ bytes. length bytes ≡ len
-    → Appends out now (mended (reserves_checksums bytes) (size_in_file bytes) bytes)))
+    → Appends out now (mended (has_checksum_space bytes) (size_in_file bytes) bytes)))
 copied_as_said (Err e) known left whole header size len sums out now long took is named said given = tt
 copied_as_said (Ok u) None left whole header size len sums out now long took is named said given = tt
 copied_as_said (Ok u) (Some bytes) None whole header size len sums out now long took is named said given =
@@ -201,7 +201,7 @@ copied_as_said (Ok u) (Some bytes) (Some rest) whole header size len sums out no
     let copied : length bytes ≡ len → Appends out now (mended sums size bytes) =
     subst (λ w. IfSome w (λ it. length it ≡ len → Appends out now (mended sums size it)))
     (is ∙ ap (λ it. Some it) (sym took)) given in λ same.
-    subst (λ n. Appends out now (mended (reserves_checksums bytes) n bytes))
+    subst (λ n. Appends out now (mended (has_checksum_space bytes) n bytes))
     (named ∙ sym (header_says (Some bytes) (Some rest) header long took))
     (subst (λ b. Appends out now (mended b size bytes)) (said ∙ sym (sums_said bytes header rest long took))
     (copied same))

@@ -13,7 +13,7 @@ use Rattle.sqlite_wal.specs.declared.error.Error.{Error}
 use Rattle.sqlite_wal.specs.declared.error.Error.TheVariants.{Corrupt, Full}
 use Rattle.sqlite_pager.specs.Pager.{AreUsable, IsAtLimit, RefusesPage, image as seen_by, state}
 use Rattle.sqlite_pager.specs.declared.pager.Pager.{Pager}
-use Rattle.db_file.specs.Header.{reserves_checksums}
+use Rattle.db_file.specs.Header.{has_checksum_space}
 use Rattle.db_file.specs.Orders.{ordered_page}
 use Rattle.db_file.specs.Sums.{with_checksum}
 use Rattle.db_file.specs.declared.committing.Left.{Left}
@@ -21,7 +21,7 @@ use Rattle.db_file.specs.declared.committing.Left.TheVariants as kind
 
 -- a file's first page in canonical order, with its checksum, if pages have checksums
 abbrev pub in_order : List ℕ → List ℕ
-in_order page = if reserves_checksums page then with_checksum (ordered_page page) else ordered_page page
+in_order page = if has_checksum_space page then with_checksum (ordered_page page) else ordered_page page
 
 -- pages before and after: the first page is put in canonical order, and no other page changes
 pub record OrdersFirst (old new : Pages) : Type 0 where

@@ -7,5 +7,5 @@ byte bytes at = slice_index_or bytes at 0
 
 -- byte 20 of the file's header reserves eight bytes at the end of each page: the pages then have checksums
 -- (section 1.3.4)
-abbrev pub reserves_checksums : List ℕ → Bool
-reserves_checksums header = byte header 20 == 8
+abbrev pub has_checksum_space : List ℕ → Bool
+has_checksum_space header = byte header 20 == 8

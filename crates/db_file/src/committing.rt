@@ -13,7 +13,7 @@ ghost use Rattle.db_file.specs.Committing.{OrdersFirst, RefusesFiles, RefusesFir
 ghost use Rattle.db_file.specs.Committing.{faults_of, image_of, leaves};
 ghost use Rattle.db_file.specs.Orders.{IsFirstPage};
 
-use crate::db_header::{MAX_PAGE, reserves_checksums};
+use crate::db_header::{MAX_PAGE, has_checksum_space};
 use crate::orders::order_page;
 use crate::sums::set_checksum;
 use sqlite_disk::{Disk, Files, Start};
@@ -184,7 +184,7 @@ fn reorder_checksummed(page: &mut [u8])
     requires { IsFirstPage page.old }
     ensures { page.new ≡ spec.in_order page.old }
 {
-    let has_sum = reserves_checksums(page);
+    let has_sum = has_checksum_space(page);
     order_page(page);
     if has_sum {
         set_checksum(page);

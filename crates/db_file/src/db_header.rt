@@ -33,8 +33,8 @@ pub fn byte(bytes: &[u8], at: usize) -> u8
 
 /// Whether the header of a database reserves eight bytes at the end of each page. Its pages are then taken to
 /// have checksums.
-pub fn reserves_checksums(header: &[u8]) -> bool
-    ensures { result ≡ spec.reserves_checksums header.now }
+pub fn has_checksum_space(header: &[u8]) -> bool
+    ensures { result ≡ spec.has_checksum_space header.now }
 {
     usize::from(byte(header, RESERVED_AT)) == SUM
 }

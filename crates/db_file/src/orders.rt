@@ -8,11 +8,11 @@ ghost use Rattle.std.specs.Prelude.{None, OnOk, Some, false, true};
 ghost use Rattle.std.specs.Fmt.{option_append};
 ghost use Rattle.std.specs.Io.KnownBytes.{Appends};
 ghost use Rattle.sqlite_wal.specs.PageSize.{IsPageSize, bytes_of, size_in_file};
-ghost use Rattle.db_file.specs.Header.{reserves_checksums as has_checksums};
+ghost use Rattle.db_file.specs.Header.{has_checksum_space as has_checksums};
 ghost use Rattle.db_file.specs.Orders as spec;
 ghost use Rattle.db_file.specs.Orders.{IsFirstPage};
 
-use crate::db_header::{HEADER, MAX_PAGE, byte, reserves_checksums, page_size_in};
+use crate::db_header::{HEADER, MAX_PAGE, byte, has_checksum_space, page_size_in};
 use crate::sums::{copy_bytes, copy_checksummed, open_regular};
 use sqlite_wal::PageSize;
 use std::fs::File;
@@ -473,7 +473,7 @@ fn copy_by_header<R: Read, W: Write>(file: &mut R, output: &mut W, len: u64) -> 
     match page_size_in(&header) {
         Some(size) => {
             let mut whole = (&header[..]).chain(file);
-            copy_in_order(&mut whole, output, size, len, reserves_checksums(&header))
+            copy_in_order(&mut whole, output, size, len, has_checksum_space(&header))
         }
         None => Err(io::Error::from(ErrorKind::Unsupported)),
     }

@@ -8,10 +8,10 @@ ghost use Rattle.std.specs.Io.KnownBytes.{Appends};
 ghost use Rattle.std.specs.IoError.{error_kind};
 ghost use Rattle.std.specs.declared.io.ErrorKind.TheVariants.{Unsupported};
 ghost use Rattle.sqlite_wal.specs.PageSize.{IsPageSize, bytes_of, size_in_file};
-ghost use Rattle.db_file.specs.Header.{reserves_checksums};
+ghost use Rattle.db_file.specs.Header.{has_checksum_space};
 ghost use Rattle.db_file.specs.Sums as spec;
 
-use crate::db_header::{HEADER, MAX_PAGE, SUM, page_size_in, reserves_checksums};
+use crate::db_header::{HEADER, MAX_PAGE, SUM, has_checksum_space, page_size_in};
 use sqlite_wal::{PageSize, checksum_of};
 use std::fs::{self, File, Metadata};
 use std::io::{self, ErrorKind, Read, Write};
@@ -52,7 +52,7 @@ fn count_bad_if_opened<R: Read + Drop>(
 fn checksummed_size<R: Read + Drop>(opened: io::Result<R>) -> Option<PageSize>
     ensures unread { IsErr opened → result ≡ None }
     ensures sized { IfSome result (λ size. IfOk opened (λ file. IfSome (R.remaining file) (λ bytes.
-        (reserves_checksums bytes ≡ true) × (bytes_of size ≡ size_in_file bytes)))) }
+        (has_checksum_space bytes ≡ true) × (bytes_of size ≡ size_in_file bytes)))) }
 {
     match opened {
         Ok(mut file) => read_checksummed_size(&mut file).ok()?,
@@ -63,9 +63,9 @@ fn checksummed_size<R: Read + Drop>(opened: io::Result<R>) -> Option<PageSize>
 // Reads the header of a database; returns its page size, if that is valid and the pages have checksums.
 fn read_checksummed_size<R: Read>(file: &mut R) -> io::Result<Option<PageSize>>
     ensures some { IfOk result (λ found. IfSome found (λ size. IfSome (R.remaining file.old) (λ bytes.
-        (reserves_checksums bytes ≡ true) × (bytes_of size ≡ size_in_file bytes)))) }
+        (has_checksum_space bytes ≡ true) × (bytes_of size ≡ size_in_file bytes)))) }
     ensures none { IfOk result (λ found. IfNone found (IfSome (R.remaining file.old) (λ bytes.
-        reserves_checksums bytes ≡ true → ¬ IsPageSize (size_in_file bytes)))) }
+        has_checksum_space bytes ≡ true → ¬ IsPageSize (size_in_file bytes)))) }
 {
     let mut header = [0u8; HEADER];
     file.read_exact(&mut header)?;
@@ -75,11 +75,11 @@ fn read_checksummed_size<R: Read>(file: &mut R) -> io::Result<Option<PageSize>>
 // The page size that the header of a database names, if that is valid and the pages have checksums.
 fn checksummed_size_in(header: &[u8; HEADER]) -> Option<PageSize>
     ensures some { IfSome result (λ size.
-        (reserves_checksums header.now ≡ true) × (bytes_of size ≡ size_in_file header.now)) }
-    ensures none { result ≡ None → reserves_checksums header.now ≡ true
+        (has_checksum_space header.now ≡ true) × (bytes_of size ≡ size_in_file header.now)) }
+    ensures none { result ≡ None → has_checksum_space header.now ≡ true
         → ¬ IsPageSize (size_in_file header.now) }
 {
-    if !reserves_checksums(header) {
+    if !has_checksum_space(header) {
         return None;
     }
     page_size_in(header)

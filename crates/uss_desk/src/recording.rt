@@ -27,8 +27,8 @@ use desk_host::folders::{
     JournalError, JournalFile, last_journal, make_part, move_rest, name_part, tail_of,
 };
 use desk_recording::{
-    Exchange, Journal, Record, Tail, TailEnd, WrittenRecord, missing_enrolments, recover,
-    write_header,
+    AppendError, Exchange, Journal, Record, Tail, TailEnd, WrittenRecord, missing_enrolments,
+    recover, write_header,
 };
 use desk_rules::terms::Terms;
 use host_files::files::LocalHost;
@@ -537,7 +537,8 @@ fn begin_part<'s>(
     };
     match write_header(host.alloc(), &mut journal, number, terms, operators) {
         Ok(()) => Ok(journal),
-        Err(_) => Err(ErrorCode::Write),
+        Err(AppendError::OutOfMemory) => Err(ErrorCode::Memory),
+        Err(AppendError::Journal(_)) => Err(ErrorCode::Write),
     }
 }
 

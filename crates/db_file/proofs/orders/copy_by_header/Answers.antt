@@ -9,9 +9,9 @@ returns-in-Some-clause-mended g c =
     let short : length header ≡ 24 = search rules in
     copied_as_said c.copy_in_order.result (g.R.Read.remaining c.args.file.now)
     (g.R.Read.remaining c.read_exact.new.self) _ header (bytes_of c.in-Some.size) c.args.len
-    c.reserves_checksums.result (g.W.Write.contents c.args.output.now) (g.W.Write.contents c.copy_in_order.new.output)
+    c.has_checksum_space.result (g.W.Write.contents c.args.output.now) (g.W.Write.contents c.copy_in_order.new.output)
     short c.in_ok-read_exact.ensures.bytes c.chain-whole.ensures.bytes c.in-Some.ensures.1
-    c.reserves_checksums.ensures c.copy_in_order.ensures
+    c.has_checksum_space.ensures c.copy_in_order.ensures
 
 pub returns-in-Some-clause-sized : goal.returns-in-Some-clause-sized
 returns-in-Some-clause-sized g c =
