@@ -388,7 +388,7 @@ fn is_disordered_if_opened<R: Read + Drop>(opened: io::Result<R>) -> bool
     ensures unread { IsErr opened → result ≡ false }
     ensures reported { IfOk opened (λ file. IfSome (R.remaining file) (λ bytes.
         IsPageSize (size_in_file bytes) → result ≡ true → spec.has_other_order bytes ≡ true)) }
-    ensures unsized { IfOk opened (λ file. IfSome (R.remaining file) (λ bytes.
+    ensures no_page_size { IfOk opened (λ file. IfSome (R.remaining file) (λ bytes.
         ¬ IsPageSize (size_in_file bytes) → result ≡ false)) }
 {
     match opened {
