@@ -50,7 +50,7 @@ fn show_cells<W: Write>(cover: &Cover, output: &mut W) -> anyhow::Result<()> {
     for cell in cover.cells() {
         write!(output, " {cell}")?;
     }
-    writeln!(output, ", {} looks", cover.comparison_count())?;
+    writeln!(output, ", {} looks", cover.looked())?;
     Ok(())
 }
 

@@ -128,13 +128,13 @@ most_looks level cells limit low few =
     let product : level * cells ≤ 24 * cells = mul-le-mul_right cells low in omega (arith, product, few)
 
 -- what a walk over the whole face has found
-pub record IsCovered (set : ℕ → Bool) (limit : ℕ) (ids : List ℕ) (comparison_count : ℕ) : Type 0 where
+pub record IsCovered (set : ℕ → Bool) (limit : ℕ) (ids : List ℕ) (looked : ℕ) : Type 0 where
   pub canonical : IsCanonical set ids
   pub leaves : (p : ℕ) → leaves_of ids p ≡ set p
   pub own : IsCanonical (leaves_of ids) ids
   pub few : length ids ≤ limit
-  pub comparisons : IsInRange (length ids) (max_comparisons limit) comparison_count
-  pub exact : HasCompared set comparison_count
+  pub comparisons : IsInRange (length ids) (max_comparisons limit) looked
+  pub exact : HasCompared set looked
 
 pub covered : (w : WideParts) (square : GridSquare) (limit new : ℕ) (before ids : List ℕ)
     → square ≡ whole w.face
@@ -175,7 +175,7 @@ covered w square limit new before ids is none face level walked =
 pub refused : (w : WideParts) (limit levels left : ℕ) (fault : CoverFault) → w.face < 6 → levels ≤ 24
     → left ≤ limit + 1 → HasStopped (wide_set w) limit (0 + comparisons_for levels left) fault
     → IsRefused (wide_set w) limit fault
-refused w limit levels left (TooManyCells comparison_count) face level few stopped =
+refused w limit levels left (TooManyCells looked) face level few stopped =
     let set = wide_set w in
     let ids = has_canonical set (λ p. below_leaves w p face) in
     let most = most_looks levels left limit level few in (

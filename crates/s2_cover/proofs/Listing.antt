@@ -211,6 +211,6 @@ same_list set ids canonical = same_canonical set ids (canonical_list set) canoni
 
 pub longer : (set : ℕ → Bool) (limit : ℕ) (fault : CoverFault) → IsRefused set limit fault
     → IsLonger set limit fault
-longer set limit (TooManyCells comparison_count) refused =
+longer set limit (TooManyCells looked) refused =
     subst (λ ids. limit < length ids) (same_list set refused.1.0 refused.1.1.0) refused.1.1.1
 longer set limit OutOfMemory refused = tt

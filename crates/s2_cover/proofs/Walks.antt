@@ -105,16 +105,16 @@ stopped_inside set limit first id before laid largest begins full ids canonical 
 
 -- after some of the four children of a square, whose own children are `levels` above the leaves
 pub record IsWalking (set : ℕ → Bool) (levels limit most first count k : ℕ) (before cells : List ℕ)
-    (old comparison_count : ℕ) : Type 0 where
+    (old looked : ℕ) : Type 0 where
   pub marked : List ℕ
   pub crossed : AreCrossedIn set most first (first + k * count) marked
-  pub exact : comparison_count ≡ old + 1 + k + 4 * length marked
+  pub exact : looked ≡ old + 1 + k + 4 * length marked
   pub more : List ℕ
   pub grown : cells ≡ before ++ more
   pub laid : IsLaid set cells (first + k * count)
   pub few : length cells ≤ limit
-  pub comparisons : comparison_count ≤ old + 1 + k + 4 * (levels * length more)
-  pub counted : length cells ≤ comparison_count
+  pub comparisons : looked ≤ old + 1 + k + 4 * (levels * length more)
+  pub counted : length cells ≤ looked
 
 pub walking_begins : (set : ℕ → Bool) (levels limit most first count old : ℕ) (before : List ℕ)
     → IsLaid set before first
@@ -136,16 +136,16 @@ step_looks : (levels one two all : ℕ) → all ≡ one + two → levels * all �
 step_looks levels one two all is = ap (λ n. levels * n) is ∙ omega arith
 
 pub walking_goes_on : (set : ℕ → Bool) (levels limit level first k upto child : ℕ)
-    (before cells after : List ℕ) (old comparison_count new : ℕ)
+    (before cells after : List ℕ) (old looked new : ℕ)
     → IsBlock child (level + 1) (first + k * leaf_count (level + 1))
     → IsWalking set levels limit (60 - 2 * (level + 1)) first (leaf_count (level + 1)) k before cells
     old
-    comparison_count
-    → HasWalked set levels limit (first + k * leaf_count (level + 1)) upto cells after comparison_count new
+    looked
+    → HasWalked set levels limit (first + k * leaf_count (level + 1)) upto cells after looked new
     → upto ≡ first + (k + 1) * leaf_count (level + 1)
     → IsWalking set levels limit (60 - 2 * (level + 1)) first (leaf_count (level + 1))
     (k + 1) before after old new
-walking_goes_on set levels limit level first k upto child before cells after old comparison_count new block
+walking_goes_on set levels limit level first k upto child before cells after old looked new block
     walking
     walked is =
     let long = length-append walking.more walked.more in
@@ -182,11 +182,11 @@ child_sum levels above taken left all up parts some =
     omega (arith, sum, more, parts, some)
 
 pub child_most : (set : ℕ → Bool) (levels above limit most first count k : ℕ) (before cells : List ℕ)
-    (old comparison_count : ℕ)
-    → IsWalking set levels limit most first count k before cells old comparison_count → above ≡ levels + 1 → k < 4
-    → comparison_count + comparisons_for levels (limit + 1 - length cells) ≤ old + comparisons_for above
+    (old looked : ℕ)
+    → IsWalking set levels limit most first count k before cells old looked → above ≡ levels + 1 → k < 4
+    → looked + comparisons_for levels (limit + 1 - length cells) ≤ old + comparisons_for above
     (limit + 1 - length before)
-child_most set levels above limit most first count k before cells old comparison_count walking up below =
+child_most set levels above limit most first count k before cells old looked walking up below =
     let long : length cells ≡ length before + length walking.more =
     ap length walking.grown ∙ length-append before walking.more in
     let sum =
@@ -215,16 +215,16 @@ last_sum levels above cells up some =
     omega (arith, more, some)
 
 pub walking_ends : (set : ℕ → Bool) (levels above level limit first k id : ℕ) (before cells : List ℕ)
-    (old comparison_count : ℕ)
+    (old looked : ℕ)
     → IsBlock id level first
     → IsWalking set levels limit (60 - 2 * (level + 1)) first (leaf_count (level + 1)) k before cells
     old
-    comparison_count → k ≡ 4
+    looked → k ≡ 4
     → level < 30 → above ≡ levels + 1 → IsLaid set before first
     → SomeIn first (first + (leaf_count level - 1)) set true
     → SomeIn first (first + (leaf_count level - 1)) set false
-    → HasWalked set above limit first (first + (leaf_count level - 1) + 1) before cells old comparison_count
-walking_ends set levels above level limit first k id before cells old comparison_count block walking all inner up
+    → HasWalked set above limit first (first + (leaf_count level - 1) + 1) before cells old looked
+walking_ends set levels above level limit first k id before cells old looked block walking all inner up
     laid
     inside outside =
     let four = four_children level inner in
@@ -287,7 +287,7 @@ child_upto child square k level first =
 pub stopped_later : (set : ℕ → Bool) (limit most more : ℕ) (fault : CoverFault)
     → HasStopped set limit most fault
     → most ≤ more → HasStopped set limit more fault
-stopped_later set limit most more (TooManyCells comparison_count) stopped order =
+stopped_later set limit most more (TooManyCells looked) stopped order =
     ((stopped.0.0, omega (arith, stopped.0.1, order)), stopped.1)
 stopped_later set limit most more OutOfMemory stopped order = tt
 
@@ -297,7 +297,7 @@ pub stopped_full : (set : ℕ → Bool) (limit first id comparisons most : ℕ) 
     → IsLaid set before first → IsLargest set id → first_leaf id ≡ first → length before < comparisons
     → comparisons ≤ most
     → IsFull limit (length before) comparisons fault → HasStopped set limit most fault
-stopped_full set limit first id comparisons most before (TooManyCells comparison_count) laid largest begins counted
+stopped_full set limit first id comparisons most before (TooManyCells looked) laid largest begins counted
     within full = (
       (omega (arith, full, counted), omega (arith, full.0, within)),
       stopped_inside set limit first id before laid largest begins full.1,

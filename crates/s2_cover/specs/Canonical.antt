@@ -26,4 +26,4 @@ pub record IsCanonical (set : ℕ → Bool) (ids : List ℕ) : Type 0 where
 -- rectangle to find them
 pub record CoverParts : Type 0 where
   pub ids : List ℕ
-  pub comparison_count : ℕ
+  pub looked : ℕ

@@ -21,5 +21,5 @@ canonical_list set = filter (is_largest set) (range_with_len 0 (2 ^ 64))
 
 -- a refusal for too many cells: the canonical list is longer than the limit
 abbrev pub IsLonger : (ℕ → Bool) → ℕ → CoverFault → Type 0
-IsLonger set limit (TooManyCells comparison_count) = limit < length (canonical_list set)
+IsLonger set limit (TooManyCells looked) = limit < length (canonical_list set)
 IsLonger set limit OutOfMemory = Unit

@@ -12,5 +12,5 @@ rect_fault_text Order = codes "a least coordinate is above its greatest"
 rect_fault_text Level = codes "a rectangle has a level of 8 to 24"
 
 abbrev pub cover_fault_text : CoverFault → List ℕ
-cover_fault_text (TooManyCells comparison_count) = codes "the cover has too many cells"
+cover_fault_text (TooManyCells looked) = codes "the cover has too many cells"
 cover_fault_text OutOfMemory = codes "out of memory"

@@ -76,7 +76,7 @@ pub record AreCrossed (set : ℕ → Bool) (ids : List ℕ) : Type 0 where
 
 -- how many comparisons a cover takes: one of a face, and four of the children of each crossed cell
 abbrev pub HasCompared : (ℕ → Bool) → ℕ → Type 0
-HasCompared set comparison_count = (ids : List ℕ) × (AreCrossed set ids × (comparison_count ≡ 1 + 4 * length ids))
+HasCompared set looked = (ids : List ℕ) × (AreCrossed set ids × (looked ≡ 1 + 4 * length ids))
 
 -- a crossed cell among the positions from `first` to before `upto`, with its lowest set bit at most at `most`
 pub record IsCrossedIn (set : ℕ → Bool) (most first upto id : ℕ) : Type 0 where
@@ -107,13 +107,13 @@ pub record HasWalked (set : ℕ → Bool) (levels limit first upto : ℕ) (befor
 
 -- a walk has ended at a fault; if it is for too many cells, then after at most `most` comparisons
 abbrev pub HasStopped : (ℕ → Bool) → ℕ → ℕ → CoverFault → Type 0
-HasStopped set limit most (TooManyCells comparison_count) =
-    IsInRange (limit + 1) most comparison_count × HasMoreCells set limit
+HasStopped set limit most (TooManyCells looked) =
+    IsInRange (limit + 1) most looked × HasMoreCells set limit
 HasStopped set limit most OutOfMemory = Unit
 
 -- the fault at one cell more: there are as many cells as the limit allows
 abbrev pub IsFull : ℕ → ℕ → ℕ → CoverFault → Type 0
-IsFull limit cells comparisons (TooManyCells comparison_count) = (comparison_count ≡ comparisons) × (limit ≤ cells)
+IsFull limit cells comparisons (TooManyCells looked) = (looked ≡ comparisons) × (limit ≤ cells)
 IsFull limit cells comparisons OutOfMemory = Unit
 
 -- the most comparisons after which a cover within a limit is found or refused: 1 + 96 * (limit + 1)
@@ -122,7 +122,7 @@ max_comparisons limit = comparisons_for max_level (limit + 1)
 
 -- a refusal for too many cells: the set has a canonical list, which is longer than the limit
 abbrev pub IsRefused : (ℕ → Bool) → ℕ → CoverFault → Type 0
-IsRefused set limit (TooManyCells comparison_count) =
-    IsInRange (limit + 1) (max_comparisons limit) comparison_count
+IsRefused set limit (TooManyCells looked) =
+    IsInRange (limit + 1) (max_comparisons limit) looked
     × ((ids : List ℕ) × (IsCanonical set ids × (limit < length ids)))
 IsRefused set limit OutOfMemory = Unit

@@ -18,7 +18,7 @@ use std::marker::Model;
 pub struct Cover {
     cells: Vec<CellId>,
     // how many squares were compared with a rectangle to find the cells
-    comparison_count: u64,
+    looked: u64,
 }
 
 impl Model for Cover {
@@ -27,7 +27,7 @@ impl Model for Cover {
 
     ghost Value = { CoverParts };
 
-    ghost view = { λ cover. record { ids = cover.cells.items; comparison_count = cover.comparison_count } };
+    ghost view = { λ cover. record { ids = cover.cells.items; looked = cover.looked } };
 
     ghost invariant = { λ cover. IsCanonical (leaves_of cover.cells.items) cover.cells.items };
 }
@@ -42,10 +42,10 @@ impl Cover {
     }
 
     /// How many squares `cover` compared with the rectangle to find the cells; 0 for covers of other origin.
-    pub fn comparison_count(&self) -> u64
-        ensures { result ≡ self.now.comparison_count }
+    pub fn looked(&self) -> u64
+        ensures { result ≡ self.now.looked }
     {
-        self.comparison_count
+        self.looked
     }
 
     /// The cover's leaves as ranges of positions along the curve, in one pass over the cells.
@@ -72,26 +72,20 @@ impl Cover {
             IfOk result (λ cover. IsCanonical set cover.ids) }
         ensures leaves { IfOk result (λ cover.
             (p : ℕ) → leaves_of cover.ids p ≡ spans_have ranges.now p) }
-        ensures comparison_count { IfOk result (λ cover. cover.comparison_count ≡ 0) }
+        ensures looked { IfOk result (λ cover. cover.looked ≡ 0) }
     {
         let cells = largest_cells(Vec::new(alloc), ranges.spans())?;
-        Ok(Cover {
-            cells,
-            comparison_count: 0,
-        })
+        Ok(Cover { cells, looked: 0 })
     }
 
     /// The cover with these cells, which have to be the canonical list of their leaves, and the number of
     /// squares that were compared with a rectangle to find them.
-    pub(crate) fn of_canonical(cells: Vec<CellId>, comparison_count: u64) -> Cover
+    pub(crate) fn of_canonical(cells: Vec<CellId>, looked: u64) -> Cover
         requires { IsCanonical (leaves_of cells.items) cells.items }
         ensures ids { result.ids ≡ cells.items }
-        ensures comparison_count { result.comparison_count ≡ comparison_count }
+        ensures looked { result.looked ≡ looked }
     {
-        Cover {
-            cells,
-            comparison_count,
-        }
+        Cover { cells, looked }
     }
 
     /// A copy of the cover.
@@ -105,7 +99,7 @@ impl Cover {
         let cells = Vec::from_slice(*self.cells.allocator(), &self.cells)?;
         Ok(Cover {
             cells,
-            comparison_count: self.comparison_count,
+            looked: self.looked,
         })
     }
 }
@@ -121,7 +115,7 @@ pub fn normalise(alloc: Global, cells: &[CellId]) -> Result<Cover, AllocError>
     ensures canonical { IfOk result (λ cover. IsCanonical (leaves_of cells.now) cover.ids) }
     ensures leaves { IfOk result (λ cover.
         (p : ℕ) → leaves_of cover.ids p ≡ leaves_of cells.now p) }
-    ensures comparison_count { IfOk result (λ cover. cover.comparison_count ≡ 0) }
+    ensures looked { IfOk result (λ cover. cover.looked ≡ 0) }
     ensures some { 0 < length cells.now → IfOk result (λ cover. 0 < length cover.ids) }
 {
     let mut sorted = Vec::from_slice(alloc, cells)?;
@@ -129,10 +123,7 @@ pub fn normalise(alloc: Global, cells: &[CellId]) -> Result<Cover, AllocError>
     let ranges = Ranges::of_sorted(alloc, &sorted)?;
     sorted.clear();
     let cells = largest_cells(sorted, ranges.spans())?;
-    Ok(Cover {
-        cells,
-        comparison_count: 0,
-    })
+    Ok(Cover { cells, looked: 0 })
 }
 
 // The largest cells that lie in `spans`, the ranges of a set of leaves, ascending. They are put into `empty`,

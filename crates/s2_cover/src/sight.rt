@@ -96,17 +96,17 @@ impl Widened {
 }
 
 /// How `square` overlaps the rectangle `wide`, both on one face; the square's level is at most that of the
-/// rectangle. Adds one to `comparison_count`.
-pub(crate) fn compare(wide: &Widened, square: &Square, comparison_count: &mut u64) -> Overlap
+/// rectangle. Adds one to `looked`.
+pub(crate) fn compare(wide: &Widened, square: &Square, looked: &mut u64) -> Overlap
     requires wide { IsWide wide.now }
     requires square { IsSquare square.now }
     requires face { square.now.face ≡ wide.now.face }
     requires level { square.now.level ≤ wide.now.level }
-    requires room { comparison_count.old + 1 < 2 ^ 64 }
-    ensures counted { comparison_count.new ≡ comparison_count.old + 1 }
+    requires room { looked.old + 1 < 2 ^ 64 }
+    ensures counted { looked.new ≡ looked.old + 1 }
     ensures is_overlap { IsSquareOverlap (wide_set wide.now) wide.now.level square.now result }
 {
-    *comparison_count += 1;
+    *looked += 1;
     let side = side_of(wide.level);
     combine(
         compare_range(square.i_span(), wide.a_min, wide.a_max, side),

@@ -28,7 +28,7 @@ pub enum CoverFault {
     /// The canonical cover has more cells than the limit.
     TooManyCells {
         /// How many squares were compared with the rectangle until this was known.
-        comparison_count: u64,
+        looked: u64,
     },
     /// Memory ran out.
     OutOfMemory,
@@ -75,9 +75,9 @@ pub fn cover(alloc: Global, rect: &Rect, limit: u32) -> Result<Cover, CoverFault
         IsTrue (leaves_of cover.ids (position_of leaf)) ↔ IsInFootprint rect.now leaf) }
     ensures some { IfOk result (λ cover. 0 < length cover.ids) }
     ensures few { IfOk result (λ cover. length cover.ids ≤ limit) }
-    ensures comparison_count { IfOk result (λ cover.
-        IsInRange (length cover.ids) (max_comparisons limit) cover.comparison_count) }
-    ensures exact { IfOk result (λ cover. HasCompared (rect_leaves rect.now) cover.comparison_count) }
+    ensures looked { IfOk result (λ cover.
+        IsInRange (length cover.ids) (max_comparisons limit) cover.looked) }
+    ensures exact { IfOk result (λ cover. HasCompared (rect_leaves rect.now) cover.looked) }
     ensures refused { IfErr result (IsRefused (rect_leaves rect.now) limit) }
     ensures list { IfOk result (λ cover. cover.ids ≡ canonical_list (rect_leaves rect.now)) }
     ensures longer { IfErr result (IsLonger (rect_leaves rect.now) limit) }
@@ -85,13 +85,13 @@ pub fn cover(alloc: Global, rect: &Rect, limit: u32) -> Result<Cover, CoverFault
     let wide = Widened::of_rect(rect);
     let face = Square::of_face(wide.face());
     let mut cells = Vec::new(alloc);
-    let mut comparison_count = 0;
-    walk(&wide, &face, limit, &mut cells, &mut comparison_count)?;
-    Ok(Cover::of_canonical(cells, comparison_count))
+    let mut looked = 0;
+    walk(&wide, &face, limit, &mut cells, &mut looked)?;
+    Ok(Cover::of_canonical(cells, looked))
 }
 
 // Appends the canonical cells of the rectangle `wide` that lie in `square`, and adds the number of
-// comparisons to `comparison_count`. `TooManyCells` if `cells` would have more than `limit`, `OutOfMemory` if
+// comparisons to `looked`. `TooManyCells` if `cells` would have more than `limit`, `OutOfMemory` if
 // memory runs out.
 // Long: the state of the walk at a square has nine facts, and each call within hands on each by its name.
 fn walk(
@@ -99,7 +99,7 @@ fn walk(
     square: &Square,
     limit: u32,
     cells: &mut Vec<CellId>,
-    comparison_count: &mut u64,
+    looked: &mut u64,
 ) -> Result<(), CoverFault>
     requires wide { IsWide wide.now }
     requires square { IsSquare square.now }
@@ -108,41 +108,41 @@ fn walk(
     requires laid { IsLaid (wide_set wide.now) cells.old.items (first_position square.now) }
     requires few { length cells.old.items ≤ limit }
     requires opened { IsOpened (wide_set wide.now) (square_id square.now) }
-    requires counted { length cells.old.items ≤ comparison_count.old }
-    requires room { comparison_count.old
+    requires counted { length cells.old.items ≤ looked.old }
+    requires room { looked.old
         + comparisons_for (wide.now.level - square.now.level) (limit + 1 - length cells.old.items) < 2 ^ 64 }
     ensures ok { OnOk result (HasWalked (wide_set wide.now) (wide.now.level - square.now.level) limit
         (first_position square.now) (last_position square.now + 1)
-        cells.old.items cells.new.items comparison_count.old comparison_count.new) }
-    ensures err { IfErr result (HasStopped (wide_set wide.now) limit (comparison_count.old
+        cells.old.items cells.new.items looked.old looked.new) }
+    ensures err { IfErr result (HasStopped (wide_set wide.now) limit (looked.old
         + comparisons_for (wide.now.level - square.now.level) (limit + 1 - length cells.old.items))) }
 {
-    match compare(wide, square, comparison_count) {
+    match compare(wide, square, looked) {
         Overlap::Outside => {}
-        Overlap::Inside => push_cell(square, limit, cells, *comparison_count)?,
+        Overlap::Inside => push_cell(square, limit, cells, *looked)?,
         Overlap::Across => {
             for k in 0..4u8 {
-                walk(wide, &square.child(k), limit, cells, comparison_count)?;
+                walk(wide, &square.child(k), limit, cells, looked)?;
             }
         }
     }
     Ok(())
 }
 
-// Appends the cell of `square`. `TooManyCells`, with `comparison_count`, if there are `limit` cells already;
+// Appends the cell of `square`. `TooManyCells`, with `looked`, if there are `limit` cells already;
 // `OutOfMemory` if memory runs out.
 fn push_cell(
     square: &Square,
     limit: u32,
     cells: &mut Vec<CellId>,
-    comparison_count: u64,
+    looked: u64,
 ) -> Result<(), CoverFault>
     ensures pushed { OnOk result (cells.new.items ≡ cells.old.items ++ square_id square.now ∷ []) }
     ensures room { OnOk result (length cells.old.items < limit) }
-    ensures full { IfErr result (IsFull limit (length cells.old.items) comparison_count) }
+    ensures full { IfErr result (IsFull limit (length cells.old.items) looked) }
 {
     if cells.len() >= limit as usize {
-        return Err(CoverFault::TooManyCells { comparison_count });
+        return Err(CoverFault::TooManyCells { looked });
     }
     cells.push(CellId::of_square(square))?;
     Ok(())

@@ -18,7 +18,7 @@ returns-in_err-push_cell-in-Inside-clause-err t c =
     c.in-Inside.ensures.is_overlap.is_overlap in
     let fault = c.in_err-push_cell-in-Inside.field-0.0 in
     let stopped =
-    stopped_full set c.args.limit (first_position square) (square_id square) c.compare.new.comparison_count _
+    stopped_full set c.args.limit (first_position square) (square_id square) c.compare.new.looked _
     c.args.cells.now.items
     fault c.requires.laid largest block.begins (omega
     (arith, c.requires.counted, c.compare.ensures.counted))
@@ -32,9 +32,9 @@ loop-k-init t c =
     let levels = c.args.wide.now.level - square.level - 1 in
     let most = 60 - 2 * (square.level + 1) in
     subst (IsWalking (wide_set c.args.wide.now) levels c.args.limit most (first_position square)
-    (leaf_count (square.level + 1)) 0 cells cells c.args.comparison_count.now) (sym c.compare.ensures.counted)
+    (leaf_count (square.level + 1)) 0 cells cells c.args.looked.now) (sym c.compare.ensures.counted)
     (walking_begins (wide_set c.args.wide.now) levels c.args.limit most (first_position square)
-    (leaf_count (square.level + 1)) c.args.comparison_count.now cells c.requires.laid c.requires.few
+    (leaf_count (square.level + 1)) c.args.looked.now cells c.requires.laid c.requires.few
     c.requires.counted)
 
 pub walk-requires : goal.walk-requires
@@ -56,10 +56,10 @@ walk-requires t c =
     c.args.limit
     (60 - 2 * (square.level + 1)) (first_position square) (leaf_count (square.level + 1)) c.loop-k.k
     c.args.cells.now.items c.loop-k.cells.items
-    c.args.comparison_count.now c.loop-k.comparison_count walking (omega (arith, above)) c.loop-k-test.true in
-    let room : c.loop-k.comparison_count + comparisons_for (c.args.wide.now.level - child.level)
+    c.args.looked.now c.loop-k.looked walking (omega (arith, above)) c.loop-k-test.true in
+    let room : c.loop-k.looked + comparisons_for (c.args.wide.now.level - child.level)
     (c.args.limit + 1 - length c.loop-k.cells.items) < 2 ^ 64 =
-    subst (λ n. c.loop-k.comparison_count + comparisons_for n (c.args.limit + 1 - length c.loop-k.cells.items) < 2 ^ 64)
+    subst (λ n. c.loop-k.looked + comparisons_for n (c.args.limit + 1 - length c.loop-k.cells.items) < 2 ^ 64)
     (sym levels)
     (omega (arith, most, c.requires.room)) in (
       omega (arith, c.decreases, reported.level, above),
@@ -105,15 +105,15 @@ returns-in_err-walk-in-Across-clause-err t c =
     c.args.limit
     (60 - 2 * (square.level + 1)) (first_position square) (leaf_count (square.level + 1)) c.loop-k.k
     c.args.cells.now.items c.loop-k.cells.items
-    c.args.comparison_count.now c.loop-k.comparison_count c.loop-k.invariant (omega (arith, above)) c.loop-k-test.true in
+    c.args.looked.now c.loop-k.looked c.loop-k.invariant (omega (arith, above)) c.loop-k-test.true in
     let fault = c.in_err-walk-in-Across.field-0.0 in
     let stopped = c.in_err-walk-in-Across.ensures.err in
     let left = c.args.limit + 1 - length c.loop-k.cells.items in
     let more =
-    stopped_later set c.args.limit (c.loop-k.comparison_count + comparisons_for
+    stopped_later set c.args.limit (c.loop-k.looked + comparisons_for
     (c.args.wide.now.level - square.level - 1)
     left) _ fault
-    (subst (λ n. HasStopped set c.args.limit (c.loop-k.comparison_count + comparisons_for n left) fault) levels stopped)
+    (subst (λ n. HasStopped set c.args.limit (c.loop-k.looked + comparisons_for n left) fault) levels stopped)
     most
     in
     if_err c.from_residual-in_err-walk-in-Across.result fault _
@@ -131,11 +131,11 @@ loop-k-preserved t c =
     (square.level + 1) =
     reported.first ∙ ap (λ l. first_position square + c.loop-k.k * leaf_count l) reported.level in
     let P : ℕ → ℕ → Type 0 = λ n from. HasWalked set n c.args.limit from (last_position child + 1)
-    c.loop-k.cells.items c.walk.new.cells.items c.loop-k.comparison_count c.walk.new.comparison_count in
+    c.loop-k.cells.items c.walk.new.cells.items c.loop-k.looked c.walk.new.looked in
     walking_goes_on set (c.args.wide.now.level - square.level - 1) c.args.limit square.level
     (first_position square)
     c.loop-k.k (last_position child + 1) (square_id child) c.args.cells.now.items c.loop-k.cells.items
-    c.walk.new.cells.items c.args.comparison_count.now c.loop-k.comparison_count c.walk.new.comparison_count
+    c.walk.new.cells.items c.args.looked.now c.loop-k.looked c.walk.new.looked
     (child_block child square c.loop-k.k reported.square reported.level reported.first) c.loop-k.invariant
     (subst (P (c.args.wide.now.level - square.level - 1)) first
     (subst (λ n. P n (first_position child)) levels c.in_ok-walk-in-Across.ensures.ok))
@@ -149,10 +149,10 @@ returns-in-Outside-clause-ok t c =
     let cells = c.args.cells.now.items in
     subst (HasWalked set levels c.args.limit (first_position square) (last_position square + 1) cells
     cells
-    c.args.comparison_count.now)
+    c.args.looked.now)
     (sym c.compare.ensures.counted)
     (walked_outside set levels c.args.limit (first_position square) (last_position square)
-    c.args.comparison_count.now
+    c.args.looked.now
     cells
     c.requires.laid (omega arith) c.in-Outside.ensures.is_overlap.is_overlap c.requires.few c.requires.counted)
 
@@ -169,11 +169,11 @@ returns-in_ok-push_cell-in-Inside-clause-ok t c =
     let reported = c.in_ok-push_cell-in-Inside.ensures in
     let P : List ℕ → ℕ → Type 0 = λ after new.
     HasWalked set levels c.args.limit (first_position square) (last_position square + 1) cells after
-    c.args.comparison_count.now new in
+    c.args.looked.now new in
     subst (λ new. P c.push_cell.new.cells.items new) (sym c.compare.ensures.counted)
-    (subst (λ after. P after (c.args.comparison_count.now + 1)) (sym reported.pushed)
+    (subst (λ after. P after (c.args.looked.now + 1)) (sym reported.pushed)
     (walked_inside set levels c.args.limit square.level (first_position square) (square_id square)
-    c.args.comparison_count.now
+    c.args.looked.now
     cells c.requires.laid block largest c.in-Inside.ensures.is_overlap.is_overlap reported.room c.requires.counted))
 
 pub returns-after-loop-k-clause-ok : goal.returns-after-loop-k-clause-ok
@@ -182,7 +182,7 @@ returns-after-loop-k-clause-ok t c =
     let above = c.in-Across.ensures.is_overlap.above refl in
     walking_ends (wide_set c.args.wide.now) (c.args.wide.now.level - square.level - 1)
     (c.args.wide.now.level - square.level) square.level c.args.limit (first_position square) c.loop-k.k
-    (square_id square) c.args.cells.now.items c.loop-k.cells.items c.args.comparison_count.now c.loop-k.comparison_count
+    (square_id square) c.args.cells.now.items c.loop-k.cells.items c.args.looked.now c.loop-k.looked
     (square_block square c.requires.square) c.loop-k.invariant
     (omega (arith, c.loop-k.auto, c.loop-k-test.false)) (omega (arith, above, c.requires.wide.level))
     (omega (arith, above)) c.requires.laid c.in-Across.ensures.is_overlap.is_overlap.0

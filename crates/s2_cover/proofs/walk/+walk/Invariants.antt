@@ -10,5 +10,5 @@ decreases-walk l = l.wide.now.level - l.square.now.level
 abbrev pub invariant-loop-k : goal.invariant-loop-k
 invariant-loop-k l =
     IsWalking (wide_set l.wide) (l.wide.level - l.square.level - 1) l.limit (60 - 2 * (l.square.level + 1))
-    (first_position l.square) (leaf_count (l.square.level + 1)) l.k l.fn.cells.items l.cells.items l.fn.comparison_count
-    l.comparison_count
+    (first_position l.square) (leaf_count (l.square.level + 1)) l.k l.fn.cells.items l.cells.items l.fn.looked
+    l.looked

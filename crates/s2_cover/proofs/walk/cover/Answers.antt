@@ -41,13 +41,13 @@ returns-in_err-walk-clause-refused c =
 
 -- what the walk over the face has found, of the rectangle itself
 found : (c : goal.In_ok-walk)
-    → IsCovered (rect_leaves c.args.rect.now) c.args.limit c.walk.new.cells.items c.walk.new.comparison_count
+    → IsCovered (rect_leaves c.args.rect.now) c.args.limit c.walk.new.cells.items c.walk.new.looked
 found c =
     let wide = c.of_rect-wide.result in
     let square = c.of_face-face.ensures ∙ ap whole c.face.ensures in
-    subst (λ w. IsCovered (wide_set w) c.args.limit c.walk.new.cells.items c.walk.new.comparison_count)
+    subst (λ w. IsCovered (wide_set w) c.args.limit c.walk.new.cells.items c.walk.new.looked)
     c.of_rect-wide.ensures.value
-    (covered wide c.of_face-face.result c.args.limit c.walk.new.comparison_count c.new-cells.result.items
+    (covered wide c.of_face-face.result c.args.limit c.walk.new.looked c.new-cells.result.items
     c.walk.new.cells.items square c.new-cells.ensures.items c.of_rect-wide.ensures.valid.face
     c.of_rect-wide.ensures.valid.level c.in_ok-walk.ensures.ok)
 
@@ -90,16 +90,16 @@ returns-clause-some c =
 pub returns-clause-few : goal.returns-clause-few
 returns-clause-few c = omega (arith, ap length c.of_canonical.ensures.ids, (found c.before).few)
 
-pub returns-clause-comparison_count : goal.returns-clause-comparison_count
-returns-clause-comparison_count c =
+pub returns-clause-looked : goal.returns-clause-looked
+returns-clause-looked c =
     let reported = (found c.before).comparisons in
     let long = ap length c.of_canonical.ensures.ids in
-    let comparisons = c.of_canonical.ensures.comparison_count
+    let comparisons = c.of_canonical.ensures.looked
     in (omega (arith, reported, long, comparisons), omega (arith, reported, comparisons))
 
 pub returns-clause-exact : goal.returns-clause-exact
 returns-clause-exact c =
-    subst (HasCompared (rect_leaves c.args.rect.now)) (sym c.of_canonical.ensures.comparison_count)
+    subst (HasCompared (rect_leaves c.args.rect.now)) (sym c.of_canonical.ensures.looked)
     (found c.before).exact
 
 pub returns-clause-list : goal.returns-clause-list
