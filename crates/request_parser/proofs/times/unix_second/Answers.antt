@@ -7,7 +7,7 @@ use Rattle.request_parser.proofs.times.unix_second.Goals as goal
 pub returns-in_err-instant-clause-second : goal.returns-in_err-instant-clause-second
 returns-in_err-instant-clause-second c =
     let t = c.args.time in
-    let there = c.in_ok-shown.ensures.there in
+    let there = c.in_ok-shown.ensures.exists in
     let offset = value_at c.from_seconds.result (λ o. o.seconds ≡ _) c.in_ok-offset.offset
     c.in_ok-offset.ensures.value c.from_seconds.ensures.value in
     let same : c.in_ok-offset.offset.seconds ≡ t.offset = offset
@@ -21,7 +21,7 @@ returns-in_err-instant-clause-second c =
 pub returns-clause-second : goal.returns-clause-second
 returns-clause-second c =
     let t = c.args.time in
-    let there = c.in_ok-shown.ensures.there in
+    let there = c.in_ok-shown.ensures.exists in
     let offset = value_at c.from_seconds.result (λ o. o.seconds ≡ _) c.in_ok-offset.offset
     c.in_ok-offset.ensures.value c.from_seconds.ensures.value in
     let same : c.in_ok-offset.offset.seconds ≡ t.offset = offset
