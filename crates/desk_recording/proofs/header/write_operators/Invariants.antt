@@ -1,7 +1,7 @@
 use Rattle.std.proofs.Common.{◌≡◌, ◌++◌, map, drop}
 use Rattle.desk_record.specs.Record.{entries}
 use Rattle.desk_program.specs.Recorded.{operator_entry}
-use Rattle.desk_recording.proofs.header.write_operators.BufferedRequest as goal
+use Rattle.desk_recording.proofs.header.write_operators.Given as goal
 
 -- the text, with the entries of the operators that are left, has those of all
 abbrev pub invariant-loop-enrolment : goal.invariant-loop-enrolment

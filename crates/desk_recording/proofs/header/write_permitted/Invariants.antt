@@ -1,7 +1,7 @@
 use Rattle.std.proofs.Common.{◌≡◌, ◌++◌}
 use Rattle.desk_record.specs.Record.{entries}
 use Rattle.desk_recording.specs.Beginning.{permitted_below}
-use Rattle.desk_recording.proofs.header.write_permitted.BufferedRequest as goal
+use Rattle.desk_recording.proofs.header.write_permitted.Given as goal
 
 -- the text has the entries of those below
 abbrev pub invariant-loop-priority : goal.invariant-loop-priority

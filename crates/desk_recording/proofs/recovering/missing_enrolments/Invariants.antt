@@ -1,7 +1,7 @@
 use Rattle.std.proofs.Common.{◌≡◌, ◌++◌, drop}
 use Rattle.desk_cli.specs.Lines.{AreEnrolments}
 use Rattle.desk_recording.specs.Recovering as spec
-use Rattle.desk_recording.proofs.recovering.missing_enrolments.BufferedRequest as goal
+use Rattle.desk_recording.proofs.recovering.missing_enrolments.Given as goal
 
 -- those so far, with those among the enrolments that are left, are all
 abbrev pub invariant-loop-enrolment : goal.invariant-loop-enrolment

@@ -1,5 +1,5 @@
 use Rattle.desk_recording.specs.Tail.{AreApplied, tail_shown}
-use Rattle.desk_recording.proofs.tail.read_tail.BufferedRequest as goal
+use Rattle.desk_recording.proofs.tail.read_tail.Given as goal
 
 -- the entries so far are noted
 abbrev pub invariant-loop : goal.invariant-loop
