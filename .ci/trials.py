@@ -29,7 +29,7 @@ LOST_NAME = re.compile(r"has no field|is not in scope|has no `|was not admitted"
 VERDICT = re.compile(r"^(?:logic=not-proved|only=\d+ proved=\d+)", re.MULTILINE)
 GOAL_WORD = re.compile(r"[\w+-]+")
 # How many edits are tried in one check at most: what it came to is known at its end only.
-MOST = 12
+MOST = 40
 RANGES = ("overflow_", "bounds", "slice_bounds", "nonzero_", "offset_bounds")
 
 
