@@ -34,6 +34,10 @@ CLAUSE = re.compile(r"\b(?:ensures|requires)\b")
 IMPORT = re.compile(r"\buse\s+([^;{]*?)(?:::|\.)?(?:\{([^}]*)\}|(\*)|)(?:\s+as\s+(\w+))?\s*(?:;|$)", re.MULTILINE)
 # What isn't followed, and so may not stand in a source: imports within imports, and names that are opened.
 UNFOLLOWED = re.compile(r"\buse\s[^;{}]*\{[^;}]*\{|^ *open ", re.MULTILINE)
+# An import of names of several modules, as `use A.{B.x, C.y}`.
+NESTED = re.compile(
+    r"^([ \t]*(?:pub )?(?:ghost )?use )(Rattle\.[\w.]+)\.\{([^}\n]*[A-Za-z]\w*\.[^}\n]*)\}(;?)[ \t]*$", re.MULTILINE
+)
 ANTT_NAME = re.compile(r"(?:(?:abbrev|unfoldable|pub|record|data|infix[lr]?\s+\d+)\s+)*([^\s:({]+)")
 BEFORE_TYPES = ("struct", "enum", "type", "trait", "const", "static", "union")
 
@@ -69,6 +73,19 @@ def without_layout(text: str) -> str:
     text = re.sub(r"\s+", " ", text)
     text = re.sub(r"(?<=[(\[{]) | (?=[)\]}])", "", text)
     return re.sub(r",(?=[)\]}])", "", text).strip()
+
+
+def spread(text: str) -> str:
+    """A text in which each import has names of one module: `use A.{B.x, C.y}` is `use A.B.{x}` and `use A.C.{y}`."""
+
+    def one_each(found: re.Match[str]) -> str:
+        by_module: defaultdict[str, list[str]] = defaultdict(list)
+        for name in filter(None, map(str.strip, found[3].split(","))):
+            last = re.sub(r"^(?:[A-Za-z]\w*\.)+", "", name)
+            by_module[f"{found[2]}.{name.removesuffix(last)}".rstrip(".")].append(last)
+        return "\n".join(f"{found[1]}{path}.{{{', '.join(names)}}}{found[4]}" for path, names in by_module.items())
+
+    return NESTED.sub(one_each, text)
 
 
 def end_of_block(bare: str, start: int) -> int:
@@ -192,7 +209,7 @@ def add_imports(source: Source) -> None:
     """Notes what each name that the file imports stands for."""
     if UNFOLLOWED.search(source.bare):
         raise ValueError(f"{source.path}: write an import for each path, and open none: .ci/audit follows no others")
-    for path, listed, star, alias in IMPORT.findall(source.bare):
+    for path, listed, star, alias in IMPORT.findall(spread(source.bare)):
         path = re.sub(r"\s", "", path).rstrip(":.")
         if star:
             source.imports["*" + path] = path

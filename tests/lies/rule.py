@@ -1,4 +1,4 @@
-"""Which logs are damaged, and what is lost: the definition of crates/db_file/specs/Damage.antt, by another hand."""
+"""Which logs are damaged, and what is lost: the definition of crates/db_file/specs/Wal.antt, by another hand."""
 
 from __future__ import annotations
 

@@ -1,8 +1,7 @@
 -- Numbers of a picture, and the lines of its squares.
 use Rattle.std.proofs.Common.{◌≡◌, ◌∙◌, ◌+◌, ◌-◌, ◌*◌, ◌/◌, ◌%◌, ◌++◌, ℕ, List, [], add-one, ap, append_assoc, arith, refl, sym}
 use Rattle.std.proofs.lemmas.Nat.{div-add-mod'}
-use Rattle.cell_picture.specs.Frame.{product64}
-use Rattle.cell_picture.specs.Picture.{level, horizontal_lines_text, vertical_line_text, vertical_lines_text}
+use Rattle.cell_picture.specs.Picture.{product64, level, horizontal_lines_text, vertical_line_text, vertical_lines_text}
 
 pub floored : (number step : ℕ) → number - number % step ≡ number / step * step
 floored number step = omega (arith, div-add-mod' number step)

@@ -1,3 +1,1 @@
--- Read first: Picture, Frame.
-pub mod Frame
 pub mod Picture

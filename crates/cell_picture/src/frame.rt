@@ -1,8 +1,8 @@
 //! The part of a face that a picture shows, and the coordinates of what is drawn there.
 
 ghost use Rattle.std.specs.Prelude.{◌≡◌, ◌<◌, ◌-◌, ◌^◌};
-ghost use Rattle.cell_picture.specs.Frame as spec;
-ghost use Rattle.cell_picture.specs.Frame.{IsFrame, IsStep, rounded_down, shown_from, shown_to};
+ghost use Rattle.cell_picture.specs.Picture as spec;
+ghost use Rattle.cell_picture.specs.Picture.{IsFrame, IsStep, rounded_down, shown_from, shown_to};
 
 use s2_cellid::CellId;
 use s2_cover::Rect;

@@ -2,9 +2,8 @@
 //! them, and a legend below.
 
 ghost use Rattle.std.specs.Prelude.{◌≡◌, ◌∷◌, ◌<◌, ◌/◌, IfOk, string_bytes};
-ghost use Rattle.cell_picture.specs.Frame.{place_of};
+ghost use Rattle.cell_picture.specs.Picture.{place_of, IsPicture};
 ghost use Rattle.cell_picture.specs.Picture as spec;
-ghost use Rattle.cell_picture.specs.Picture.{IsPicture};
 
 use crate::frame::{Frame, GridSquare, WIDTH};
 use s2_cellid::CellId;

@@ -20,7 +20,7 @@ use Rattle.sqlite_wal.proofs.OutcomeLemmas.{HasCause-weaker}
 use Rattle.sqlite_pager.specs.Pager.{IsAtLimit, IsClean, RefusesCommit, RefusesPage, RefusesWrite, files, image, state, visible}
 use Rattle.sqlite_pager.specs.declared.pager.Pager.{Pager}
 use Rattle.sqlite_pager.proofs.PagerLemmas.{settled}
-use Rattle.db_file.specs.Committing.{AreAsOpened, IsInOrder, IsLeft, IsFreshPager, IsUncommitted, IsUnread, LeavesInOrder, LeavesOrdered, MayOrder, NamesSize, OrdersFirst, RefusesFiles, RefusesFirst, faults_of, image_of, in_order, leaves}
+use Rattle.db_file.specs.Orders.{AreAsOpened, IsInOrder, IsLeft, IsFreshPager, IsUncommitted, IsUnread, LeavesInOrder, LeavesOrdered, MayOrder, NamesSize, OrdersFirst, RefusesFiles, RefusesFirst, faults_of, image_of, in_order, leaves}
 use Rattle.db_file.specs.declared.committing.Left.{Left}
 use Rattle.db_file.specs.declared.committing.Left.TheVariants as kind
 

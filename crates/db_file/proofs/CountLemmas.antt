@@ -2,8 +2,7 @@
 use Rattle.std.proofs.Common.{◌≡◌, inl, inr, ℕ, suc, ◌+◌, ◌<◌, ◌≤◌, ◌&&◌, if◌then◌else◌, Bool, true, false, List, refl, sym, ap, ap₂, ◌∙◌, subst, arith, add-one, add-zero, Option}
 use Rattle.std.proofs.lemmas.Bool.Decides.{leb_tells}
 use Rattle.sqlite_wal.specs.Recovery.{frame, header}
-use Rattle.db_file.specs.Damage.{ends_commit, ends_in, has_salts, is_frame_whole, is_salted}
-use Rattle.db_file.specs.Walks.{HasFrame, IsBefore, LosesCommits}
+use Rattle.db_file.specs.Wal.{ends_commit, ends_in, has_salts, is_frame_whole, is_salted, HasFrame, IsBefore, LosesCommits}
 
 abbrev pub one_if : Bool → ℕ
 one_if b = if b then 1 else 0

@@ -5,7 +5,7 @@ use Rattle.std.proofs.lemmas.Bool.Decides.{leb_tells}
 use Rattle.std.proofs.lemmas.Slice.Eq.{bytes_eq-Decides}
 use Rattle.sqlite_wal.specs.Recovery.{Passes, frame, frame_at}
 use Rattle.sqlite_wal.proofs.PartLemmas.{frames_len-le, frames_len-suc, frames_len-zero}
-use Rattle.db_file.specs.Damage.{IsDamaged, IsDamagedAt, IsRunOfFrames, ends_commit, ends_in, is_frame_whole, is_salted}
+use Rattle.db_file.specs.Wal.{IsDamaged, IsDamagedAt, IsRunOfFrames, ends_commit, ends_in, is_frame_whole, is_salted}
 use Rattle.db_file.proofs.CountLemmas.{one_at_most, one_if}
 
 module _ (page : ℕ) (log : List ℕ) where

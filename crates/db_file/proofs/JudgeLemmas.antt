@@ -10,8 +10,7 @@ use Rattle.sqlite_wal.specs.Recovery.{frame_at, header}
 use Rattle.sqlite_wal.proofs.PartLemmas.{frames_len-zero}
 use Rattle.db_file.specs.declared.judging.WalState.{WalState}
 use Rattle.db_file.specs.declared.judging.WalState.TheVariants.{Damaged, Sound}
-use Rattle.db_file.specs.Damage.{IsDamaged, IsDamagedAt, IsStateOf, ends_in}
-use Rattle.db_file.specs.Walks.{IsAllTaken, IsBefore, IsStop, IsStopState, LosesCommits}
+use Rattle.db_file.specs.Wal.{IsDamaged, IsDamagedAt, IsStateOf, ends_in, IsAllTaken, IsBefore, IsStop, IsStopState, LosesCommits}
 use Rattle.db_file.proofs.DamageLemmas.{first_whole, is_at_stop, one_run, whole_before}
 
 -- the header and what follows it

@@ -4,8 +4,7 @@ use Rattle.std.proofs.lemmas.List.{drop_at, get_or_append_left, take_at}
 use Rattle.sqlite_wal.specs.PageSize.{IsPageSize, size_in_file}
 use Rattle.std.specs.Fmt.{option_append}
 use Rattle.std.specs.Io.KnownBytes.{Appends, Consumes}
-use Rattle.db_file.specs.Header.{has_checksum_space}
-use Rattle.db_file.specs.Orders.{has_other_order, mended, ordered, ordered_file, ordered_page, with_sums, are_moved, is_moved_by_name, is_slot_named, placed, placed_by_name, slot_from}
+use Rattle.db_file.specs.Orders.{has_checksum_space, has_other_order, mended, ordered, ordered_file, ordered_page, with_sums, are_moved, is_moved_by_name, is_slot_named, placed, placed_by_name, slot_from}
 
 less_one : (n k : ℕ) → k < n → n - k ≡ suc (n - (k + 1))
 less_one n k less = omega (arith, less)

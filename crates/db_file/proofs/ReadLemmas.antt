@@ -3,8 +3,7 @@ use Rattle.std.proofs.Common.{◌≡◌, ℕ, ◌+◌, ◌-◌, ◌*◌, ◌≤�
 use Rattle.std.proofs.lemmas.Slice.{take-put_mid_below}
 use Rattle.std.specs.Io.KnownBytes.{Consumes, Keeps}
 use Rattle.std.proofs.KnownBytes.{Consumes-trans, Consumes-kept}
-use Rattle.db_file.specs.Reads.{IsLastRead}
-use Rattle.db_file.specs.Walks.{HasRead}
+use Rattle.db_file.specs.Wal.{IsLastRead, HasRead}
 use Rattle.db_file.specs.declared.reads.LastRead.{LastRead}
 use Rattle.db_file.specs.declared.reads.LastRead.TheVariants.{Failed, Passed}
 use borrow.Rule.Slice.PartMut.{put_mid, post_of}

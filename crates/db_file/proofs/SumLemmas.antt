@@ -2,7 +2,7 @@
 use Rattle.std.proofs.Common.{◌≡◌, ◌<◌, ◌+◌, ◌-◌, ℕ, suc, List, ◌++◌, take, drop, Option, None, Some, IfSome, append-nil, append_assoc, ap, arith, refl, sym, subst, ◌∙◌}
 use Rattle.std.proofs.KnownBytes.{Appends-trans}
 use Rattle.std.specs.Io.KnownBytes.{Appends, Consumes}
-use Rattle.db_file.specs.Sums.{with_checksum, checksummed_pages, bad_checksums_in_page, bad_checksums_in_pages}
+use Rattle.db_file.specs.Orders.{with_checksum, checksummed_pages, bad_checksums_in_page, bad_checksums_in_pages}
 
 -- k of so many pages are copied
 pub record IsCopying (size count k : ℕ) (bytes : List ℕ) (left out now : Option (List ℕ)) : Type 0 where

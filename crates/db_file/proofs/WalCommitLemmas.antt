@@ -5,7 +5,7 @@ use Rattle.std.proofs.lemmas.Bool.{true≢false}
 use Rattle.sqlite_wal.specs.PageSize.{IsPageSize}
 use Rattle.sqlite_wal.specs.Recovery.{AreFramesOf, IsCommitted, IsIgnored, IsLast, Replays}
 use Rattle.sqlite_wal.proofs.PartLemmas.{frames_len-zero}
-use Rattle.db_file.specs.Commits.{HasCommit, least_with_commit}
+use Rattle.db_file.specs.Wal.{HasCommit, least_with_commit}
 
 -- a log of which recovery takes a frame has all of its header, and of the frame
 long_if_committed : (page frames : ℕ) (log : List ℕ) → 1 ≤ frames → IsCommitted page log frames

@@ -7,8 +7,12 @@ use Rattle.std.specs.Io.KnownBytes.{Consumes}
 use Rattle.sqlite_wal.specs.Format.{part, stored_sum, IsFrame}
 use Rattle.sqlite_wal.specs.Recovery.{Passes, frame_at, header, sum_before}
 use Rattle.sqlite_wal.proofs.PartLemmas.{frames_len-suc}
-use Rattle.db_file.specs.Damage.{is_frame_whole}
-use Rattle.db_file.specs.Walks.{HasFrame, IsBefore, IsFollowed, IsNext}
+use Rattle.db_file.specs.Wal.{is_frame_whole, HasFrame, IsBefore, IsNext}
+
+-- recovery accepts the first n frames, and `sum` is the checksum that the next frame continues
+pub record IsFollowed (page : ℕ) (log : List ℕ) (n : ℕ) (sum : ℕ × ℕ) : Type 0 where
+  pub taken : (i : ℕ) → i < n → Passes page log i
+  pub same : sum ≡ sum_before page log n
 
 module _ (page n : ℕ) (log room : List ℕ) (len : length room ≡ 24 + page) where
   -- the bytes of a frame stand in front of those that follow it

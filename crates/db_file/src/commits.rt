@@ -2,7 +2,7 @@
 
 ghost use Rattle.std.specs.Prelude.{◌↔◌, IfSome, IsTrue};
 ghost use Rattle.sqlite_wal.specs.Reads.{AreClean, OnlyReadsBoth};
-ghost use Rattle.db_file.specs.Commits.{HasCommit};
+ghost use Rattle.db_file.specs.Wal.{HasCommit};
 
 use sqlite_disk::{Disk, Files};
 use sqlite_wal::{probe_frames, probe_page_size};

@@ -2,16 +2,9 @@
 
 ghost use Rattle.std.specs.Prelude.{◌≡◌, IfErr, IfOk, IfSome, IsSome, IsTrue, OnOk, is_ok};
 ghost use Rattle.sqlite_pager.specs.Pager.{AreUsable, image, state, visible};
-ghost use Rattle.sqlite_wal.specs.Files.{image_at};
-ghost use Rattle.sqlite_wal.specs.Outcome.{FailsFor};
-ghost use Rattle.sqlite_wal.specs.PageSize.{bytes_of};
-ghost use Rattle.sqlite_wal.specs.Recovery.{Image, IsUnreadable};
-ghost use Rattle.sqlite_wal.specs.State.{IsSettled, StaysOrFails};
-ghost use Rattle.db_file.specs.Committing as spec;
-ghost use Rattle.db_file.specs.Committing.{AreAsOpened, IsInOrder, IsLeft, IsFreshPager, LeavesOrdered, MayOrder, NamesSize};
-ghost use Rattle.db_file.specs.Committing.{OrdersFirst, RefusesFiles, RefusesFirst};
-ghost use Rattle.db_file.specs.Committing.{faults_of, image_of, leaves};
-ghost use Rattle.db_file.specs.Orders.{IsFirstPage};
+ghost use Rattle.sqlite_wal.specs.{Files.image_at, Outcome.FailsFor, PageSize.bytes_of, Recovery.Image, Recovery.IsUnreadable, State.IsSettled, State.StaysOrFails};
+ghost use Rattle.db_file.specs.Orders as spec;
+ghost use Rattle.db_file.specs.Orders.{AreAsOpened, IsInOrder, IsLeft, IsFreshPager, LeavesOrdered, MayOrder, NamesSize, OrdersFirst, RefusesFiles, RefusesFirst, faults_of, image_of, leaves, IsFirstPage};
 
 use crate::db_header::{MAX_PAGE, has_checksum_space};
 use crate::orders::order_page;

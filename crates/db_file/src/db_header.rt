@@ -2,7 +2,7 @@
 
 ghost use Rattle.std.specs.Prelude.{◌≡◌};
 ghost use Rattle.sqlite_wal.specs.PageSize.{Names, size_in_file};
-ghost use Rattle.db_file.specs.Header as spec;
+ghost use Rattle.db_file.specs.Orders as spec;
 
 use sqlite_wal::PageSize;
 

@@ -3,7 +3,7 @@
 
 ghost use Rattle.std.specs.Prelude.{◌≡◌, ◌↔◌, ◌≤◌, if◌then◌else◌, length, IsTrue};
 ghost use Rattle.sqlite_wal.specs.Format.{IsFrame};
-ghost use Rattle.db_file.specs.Damage as spec;
+ghost use Rattle.db_file.specs.Wal as spec;
 
 use crate::numbers::{Checksum, checksum_at, number_at};
 use sqlite_wal::checksum_of;

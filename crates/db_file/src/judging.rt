@@ -2,12 +2,8 @@
 
 ghost use Rattle.std.specs.Io.KnownBytes.{Consumes};
 ghost use Rattle.std.specs.Prelude.{◌≡◌, true, ◌<◌, ◌≤◌, ◌+◌, ◌^◌, ℕ, List, length, IfErr, IfOk, IfSome};
-ghost use Rattle.sqlite_wal.specs.Format.{IsHeader};
-ghost use Rattle.sqlite_wal.specs.PageSize.{IsPageSize};
-ghost use Rattle.sqlite_wal.specs.Recovery.{header};
-ghost use Rattle.db_file.specs.Damage.{IsStateOf};
-ghost use Rattle.db_file.specs.Reads.{HaveGivenUp, IsUnchecked};
-ghost use Rattle.db_file.specs.Walks.{HasFrame, HasRead, IsBefore, IsNext, IsStopState, LosesCommits, StopsAt};
+ghost use Rattle.sqlite_wal.specs.{Format.IsHeader, PageSize.IsPageSize, Recovery.header};
+ghost use Rattle.db_file.specs.Wal.{IsStateOf, HaveGivenUp, IsUnchecked, HasFrame, HasRead, IsBefore, IsNext, IsStopState, LosesCommits, StopsAt};
 
 use crate::frames::{FRAME_HEADER, commits_ended, has_salts, is_frame_valid};
 use crate::numbers::checksum_at;

@@ -2,10 +2,8 @@
 //! its contract and does nothing.
 
 ghost use Rattle.std.specs.Prelude.{◌≡◌, ◌<◌, ◌≤◌, ◌+◌, ℕ, suc, List, [], length, true, false};
-ghost use Rattle.sqlite_wal.specs.Format.{be32};
-ghost use Rattle.sqlite_wal.specs.Recovery.{Passes, frame, header};
-ghost use Rattle.db_file.specs.Commits.{HasCommit, least_with_commit};
-ghost use Rattle.db_file.specs.Damage.{IsDamaged, ends_commit, is_frame_whole, is_salted, least_damaged};
+ghost use Rattle.sqlite_wal.specs.{Format.be32, Recovery.Passes, Recovery.frame, Recovery.header};
+ghost use Rattle.db_file.specs.Wal.{HasCommit, least_with_commit, IsDamaged, ends_commit, is_frame_whole, is_salted, least_damaged};
 
 /// An empty WAL is not damaged.
 pub fn empty_is_sound()

@@ -3,14 +3,11 @@
 //! that in which SQLite's VACUUM leaves them. The first page has the file's header first. Its page header
 //! follows at byte 100, and the pointers to the cells of its rows at byte 108, two bytes for each slot.
 
-ghost use Rattle.std.specs.Prelude.{◌≡◌, ◌≤◌, ◌<◌, ◌++◌, length, take, is_some, IfOk, IfSome, IsErr};
-ghost use Rattle.std.specs.Prelude.{None, OnOk, Some, false, true};
-ghost use Rattle.std.specs.Fmt.{option_append};
-ghost use Rattle.std.specs.Io.KnownBytes.{Appends};
+ghost use Rattle.std.specs.Prelude.{◌≡◌, ◌≤◌, ◌<◌, ◌++◌, length, take, is_some, IfOk, IfSome, IsErr, None, OnOk, Some, false, true};
+ghost use Rattle.std.specs.{Fmt.option_append, Io.KnownBytes.Appends};
 ghost use Rattle.sqlite_wal.specs.PageSize.{IsPageSize, bytes_of, size_in_file};
-ghost use Rattle.db_file.specs.Header.{has_checksum_space as has_checksums};
+ghost use Rattle.db_file.specs.Orders.{has_checksum_space as has_checksums, IsFirstPage};
 ghost use Rattle.db_file.specs.Orders as spec;
-ghost use Rattle.db_file.specs.Orders.{IsFirstPage};
 
 use crate::db_header::{HEADER, MAX_PAGE, byte, has_checksum_space, page_size_in};
 use crate::sums::{copy_bytes, copy_checksummed, open_regular};

@@ -1,8 +1,7 @@
 //! A file in memory. Nothing is left of it after a crash, so that a sync has nothing to do.
 
 ghost use Rattle.std.specs.Prelude.{◌≡◌, length, true, false, is_ok, OnOk};
-ghost use Rattle.sqlite_disk.specs.Disk.{Holds, Torn, Cut, CountsFault};
-ghost use Rattle.sqlite_disk.specs.Refusal.{finds_no_room};
+ghost use Rattle.sqlite_disk.specs.{Disk.Holds, Disk.Torn, Disk.Cut, Disk.CountsFault, Refusal.finds_no_room};
 
 use sqlite_disk::{Disk, Tally, digest_of};
 use std::alloc::{AllocError, Global};

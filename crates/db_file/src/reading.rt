@@ -2,7 +2,7 @@
 
 ghost use Rattle.std.specs.Prelude.{◌≡◌, ◌<◌, ◌≤◌, false, true, length, take, IfErr, IfOk, IfSome};
 ghost use Rattle.std.specs.Io.KnownBytes.{Consumes, IsAtEnd};
-ghost use Rattle.db_file.specs.Reads.{HaveGivenUp};
+ghost use Rattle.db_file.specs.Wal.{HaveGivenUp};
 
 use crate::reads::{Reads, read_counted};
 use std::io::Read;

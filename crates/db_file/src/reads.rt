@@ -1,9 +1,8 @@
 //! Reads, each one call of a reader, that are counted.
 
 ghost use Rattle.std.specs.Prelude.{◌≡◌, ◌↔◌, ◌+◌, ◌<◌, ◌^◌, ◌-◌, IsTrue};
-ghost use Rattle.std.specs.Io.{ReadsAtMost};
-ghost use Rattle.std.specs.Io.KnownBytes.{ReadConsumes};
-ghost use Rattle.db_file.specs.Reads.{IsLastRead};
+ghost use Rattle.std.specs.{Io.ReadsAtMost, Io.KnownBytes.ReadConsumes};
+ghost use Rattle.db_file.specs.Wal.{IsLastRead};
 
 use std::io::{self, ErrorKind, Read};
 

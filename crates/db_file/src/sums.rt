@@ -1,15 +1,12 @@
 //! The checksums of a database's pages, as SQLite's cksumvfs has them: the last eight bytes of each page. The
 //! desk updates them when it writes a page, and sqlite3 doesn't.
 
-ghost use Rattle.std.specs.Prelude.{◌≡◌, ◌≤◌, drop, length, None, Some, take, true, IfNone, IfOk};
-ghost use Rattle.std.specs.Prelude.{IfSome, IsErr, IsErrAnd, IsOk, OnOk};
-ghost use Rattle.std.specs.Fs.{IsFile, file_type};
-ghost use Rattle.std.specs.Io.KnownBytes.{Appends};
-ghost use Rattle.std.specs.IoError.{error_kind};
+ghost use Rattle.std.specs.Prelude.{◌≡◌, ◌≤◌, drop, length, None, Some, take, true, IfNone, IfOk, IfSome, IsErr, IsErrAnd, IsOk, OnOk};
+ghost use Rattle.std.specs.{Fs.IsFile, Fs.file_type, Io.KnownBytes.Appends, IoError.error_kind};
 ghost use Rattle.std.specs.declared.io.ErrorKind.TheVariants.{Unsupported};
 ghost use Rattle.sqlite_wal.specs.PageSize.{IsPageSize, bytes_of, size_in_file};
-ghost use Rattle.db_file.specs.Header.{has_checksum_space};
-ghost use Rattle.db_file.specs.Sums as spec;
+ghost use Rattle.db_file.specs.Orders.{has_checksum_space};
+ghost use Rattle.db_file.specs.Orders as spec;
 
 use crate::db_header::{HEADER, MAX_PAGE, SUM, has_checksum_space, page_size_in};
 use sqlite_wal::{PageSize, checksum_of};
@@ -219,7 +216,7 @@ pub fn set_checksum(page: &mut [u8])
 }
 
 // The checksum of `bytes` as a page has it: two little-endian numbers of 32 bits.
-#[tactic(auto, unfolding(crate::specs::Sums::sum_of))]
+#[tactic(auto, unfolding(crate::specs::Orders::sum_of))]
 fn sum_of(bytes: &[u8]) -> [u8; SUM]
     ensures { result ≡ spec.sum_of bytes.now }
 {

@@ -1,8 +1,7 @@
 //! The header of a WAL.
 
 ghost use Rattle.std.specs.Prelude.{◌≡◌, ◌↔◌, None, IfSome, IsTrue};
-ghost use Rattle.sqlite_wal.specs.Format.{IsHeader, IsSigned, be32};
-ghost use Rattle.sqlite_wal.specs.PageSize.{IsPageSize};
+ghost use Rattle.sqlite_wal.specs.{Format.IsHeader, Format.IsSigned, Format.be32, PageSize.IsPageSize};
 
 use crate::numbers::{checksum_at, number_at};
 use sqlite_wal::{PageSize, checksum_of};

@@ -10,27 +10,23 @@ use Rattle.sqlite.specs.Closing.{IsCopied as IsClosedInto}
 use Rattle.sqlite.specs.Files.{over_files}
 use Rattle.sqlite.specs.Held.{Held}
 use Rattle.desk_store.specs.World.{World}
-use Rattle.desk_wire.specs.Passage.{course}
+use Rattle.desk_wire.specs.Streams.{course}
 use Rattle.desk_cli.specs.Exits.{Ending, FailsWith}
 use Rattle.desk_program.specs.declared.looking.CheckedFile.{CheckedFile}
-use Rattle.table_load.specs.HeldContent.{AreStatsOf}
-use Rattle.desk_tables.specs.Copying.{IsMadeIn, LooksIn}
-use Rattle.table_load.specs.Leaving.{IsSettledAt}
-use Rattle.desk_tables.specs.Store.{Shown}
+use Rattle.table_load.specs.Moving.{AreStatsOf}
+use Rattle.desk_tables.specs.Copying.{IsMadeIn, LooksIn, AreNotCopied, AreNotRead}
+use Rattle.table_load.specs.Files.{IsSettledAt}
+use Rattle.desk_tables.specs.Store.{Shown, IsLeftUnclosed}
 use Rattle.table_load.specs.declared.looking.DbStats.{DbStats}
 use Rattle.desk_cli.specs.declared.failure.ErrorCode.TheVariants as failure
 use Rattle.desk_cli.specs.declared.line.Database.{Database}
-use Rattle.desk_tables.specs.Closing.{IsLeftUnclosed}
 use Rattle.desk_tables.specs.declared.closing.CheckpointError.{CheckpointError}
 use Rattle.desk_tables.specs.declared.opening.files.CopyFault.{CopyFault}
 use Rattle.desk_tables.specs.declared.opening.files.FilesFault.{FilesFault}
 use Rattle.desk_admin.specs.declared.unopened.OpenError.{OpenError}
-use Rattle.desk_admin.specs.FilesReported.{CopyEnd, FailsAtFiles, FailsBy, FailsToCopy, FailsToLook, FailsToRead, IsAsCopied, IsCopyMade, IsNamedIf, IsNamedNow, IsReadAs, IsUncopied, IsUnreported, ReportsHoldings}
-use Rattle.host_files.specs.Reporting.{Reports}
-use Rattle.host_files.specs.Naming.{Follows, Step, Steps, Synced, free_steps, named_steps}
-use Rattle.desk_admin.specs.Unopened.{open_failure}
-use Rattle.desk_admin.specs.Stored.{IsStoredAs}
-use Rattle.desk_tables.specs.Copying.{AreNotCopied, AreNotRead}
+use Rattle.desk_admin.specs.FilesReported.{CopyEnd, FailsAtFiles, FailsBy, FailsToCopy, FailsToLook, FailsToRead, IsAsCopied, IsCopyMade, IsNamedIf, IsNamedNow, IsReadAs, IsUncopied, IsUnreported, ReportsHoldings, open_failure}
+use Rattle.host_files.specs.Naming.{Reports, Follows, Step, Steps, Synced, free_steps, named_steps}
+use Rattle.desk_admin.specs.ScratchCopies.{IsStoredAs}
 use Rattle.host_files.proofs.lemmas.Naming.{failed_after, follows_both, unnamed_after}
 use Rattle.desk_admin.proofs.UnopenedLemmas.{fails_over}
 

@@ -5,16 +5,15 @@ use Rattle.sqlite_disk.specs.declared.Disk as disk
 use Rattle.sqlite_wal.specs.Recovery.{Image}
 use Rattle.sqlite_store.specs.declared.store.FileStore.{FileStore}
 use Rattle.sqlite.specs.Held.{Held}
-use Rattle.desk_wire.specs.Passage.{course}
+use Rattle.desk_wire.specs.Streams.{course}
 use Rattle.desk_cli.specs.Exits.{IsLineBreakdown}
 use Rattle.desk_cli.specs.declared.failure.ErrorCode.{ErrorCode}
 use Rattle.table_load.specs.declared.fault.OpenFault.TheVariants as opening
 use Rattle.host_files.specs.Naming.{Steps}
 use Rattle.desk_host.specs.declared.ways.ReadMode.{ReadMode}
 use Rattle.desk_host.specs.declared.ways.ReadMode.TheVariants as way
-use Rattle.desk_admin.specs.FilesReported.{FailsToRead}
-use Rattle.desk_admin.specs.Reordering.{IsAdmitted, IsLeftAlone, IsOrderedIf, IsReordered, IsReorderedIf}
-use Rattle.desk_admin.specs.Unopened.{IsOpenFailure}
+use Rattle.desk_admin.specs.FilesReported.{FailsToRead, IsOpenFailure}
+use Rattle.desk_admin.specs.ScratchCopies.{IsAdmitted, IsLeftAlone, IsOrderedIf, IsReordered, IsReorderedIf}
 use Rattle.desk_admin.specs.declared.unopened.OpenError.{OpenError}
 
 -- memory ran out, or the store failed

@@ -2,7 +2,7 @@
 use Rattle.std.proofs.Common.{◌≡◌, ℕ, List, Option, subst}
 use Rattle.sqlite_disk.specs.declared.Disk as disk
 use Rattle.sqlite_wal.specs.Recovery.{Image}
-use Rattle.desk_wire.specs.Passage.{course}
+use Rattle.desk_wire.specs.Streams.{course}
 use Rattle.desk_cli.specs.declared.line.Database.{Database}
 use Rattle.desk_cli.specs.Exits.{ending}
 use Rattle.desk_cli.specs.declared.failure.ExitReport.{ExitReport}

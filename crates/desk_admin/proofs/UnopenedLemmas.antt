@@ -4,7 +4,7 @@ use Rattle.std.specs.Option.{IsSomeAnd}
 use Rattle.sqlite_disk.specs.declared.Disk as disk
 use Rattle.desk_tables.specs.declared.opening.files.FilesFault.{FilesFault}
 use Rattle.desk_admin.specs.declared.unopened.OpenError.{OpenError}
-use Rattle.desk_admin.specs.Unopened.{FailsOver, open_failure}
+use Rattle.desk_admin.specs.FilesReported.{FailsOver, open_failure}
 
 -- what refused files refuses them in the program
 pub fails_over : {D : Type 0} {g : disk.Ghosts D} (Refused : FilesFault D g → Type 0) (it : OpenError D g)

@@ -1,40 +1,108 @@
--- FilesReported: what `check` reports of a file, and what `copy` copies of it.
-use Rattle.std.specs.Prelude.{◌≡◌, ℕ, List, [], length, Option, Result, Ok, Err, ◌⊎◌, None}
+-- What `check` reports of a file, what `copy` copies, and the errors of a file that can't be opened.
+use Rattle.std.specs.Prelude.{ℕ, List, Option, ◌≡◌, None, Result, Ok, Err, ◌⊎◌, codes, Some, [], length}
+use Rattle.std.specs.declared.io.Write as write
 use Rattle.std.specs.Option.{IsSomeAnd}
 use Rattle.sqlite_disk.specs.declared.Disk as disk
 use Rattle.sqlite_disk.specs.declared.Files.{Files}
-use Rattle.sqlite_wal.specs.Reads.{AreClean}
-use Rattle.sqlite_wal.specs.Recovery.{Image}
+use Rattle.sqlite_wal.specs.{Reads.AreClean, Recovery.Image}
 use Rattle.sqlite_store.specs.declared.store.FileStore.{FileStore}
-use Rattle.sqlite.specs.Closing.{IsCopied as IsClosedInto}
-use Rattle.sqlite.specs.Files.{over_files}
-use Rattle.sqlite.specs.Held.{Held}
+use Rattle.sqlite.specs.{Closing.IsCopied as IsClosedInto, Files.over_files, Held.Held}
 use Rattle.desk_store.specs.World.{World}
-use Rattle.desk_wire.specs.Passage.{Course, course}
-use Rattle.desk_cli.specs.declared.failure.ErrorCode.{ErrorCode}
-use Rattle.desk_cli.specs.declared.failure.ErrorCode.TheVariants as failure
-use Rattle.desk_cli.specs.declared.line.Database.{Database}
-use Rattle.desk_cli.specs.Exits.{Ending, FailsWith}
-use Rattle.desk_program.specs.Looking.{IsTextPrinted, checked_line, copied_line}
-use Rattle.desk_program.specs.declared.looking.CheckedFile.{CheckedFile}
-use Rattle.row_codec.specs.Counting.{HaveSpanRows, IsMostCells, IsMostSpans}
-use Rattle.desk_tables.specs.Closing.{IsLeftUnclosed}
-use Rattle.table_load.specs.HeldContent.{AreStatsOf, live_count}
-use Rattle.desk_tables.specs.Copying.{AreNotCopied, AreNotRead, IsMadeIn, LooksIn}
-use Rattle.desk_tables.specs.declared.closing.CheckpointError.{CheckpointError}
-use Rattle.desk_tables.specs.declared.opening.files.CopyFault.{CopyFault}
-use Rattle.desk_tables.specs.declared.opening.files.CopyFault.TheVariants as copy
-use Rattle.desk_tables.specs.declared.opening.files.FilesFault.{FilesFault}
+use Rattle.desk_wire.specs.Streams.{Course, course}
+use Rattle.db_file.specs.Orders.{order_text}
+use Rattle.row_codec.specs.SpanBounds.{HaveSpanRows, IsMostCells, IsMostSpans}
+use Rattle.table_load.specs.declared.{fault.OpenFault.OpenFault, naming.InvalidPart.InvalidPart, looking.DbStats.DbStats}
 use Rattle.table_load.specs.declared.fault.OpenFault.TheVariants as opening
-use Rattle.table_load.specs.Leaving.{IsSettledAt}
-use Rattle.table_load.specs.declared.looking.DbStats.{DbStats}
-use Rattle.desk_admin.specs.declared.keeping.CopyError.{CopyError}
-use Rattle.desk_admin.specs.declared.unopened.OpenError.{OpenError}
-use Rattle.desk_admin.specs.AdminOutside.{AdminOutside}
-use Rattle.host_files.specs.Naming.{Follows, HasFailedStep, IsNamed, IsUnnamed, Steps, Synced, free_steps, named_steps}
-use Rattle.host_files.specs.Reporting.{Reports}
-use Rattle.desk_admin.specs.Unopened.{open_failure, FailsOver, IsInMemory, IsUnreadFor}
+use Rattle.table_load.specs.declared.naming.InvalidPart.TheVariants as part
+use Rattle.table_load.specs.{Moving.AreStatsOf, Moving.live_count, Files.IsSettledAt}
+use Rattle.desk_tables.specs.declared.{opening.files.FilesFault.FilesFault, opening.files.CopyFault.CopyFault, closing.CheckpointError.CheckpointError}
+use Rattle.desk_tables.specs.{Store.IsLeftUnclosed, Copying.AreNotCopied, Copying.AreNotRead, Copying.IsMadeIn, Copying.LooksIn}
+use Rattle.desk_tables.specs.declared.opening.files.CopyFault.TheVariants as copy
+use Rattle.desk_cli.specs.declared.{failure.ExitReport.ExitReport, failure.ErrorCode.ErrorCode, line.Database.Database}
+use Rattle.desk_cli.specs.{Exits.Ending, Exits.FailsWith, Lines.file_of}
+use Rattle.desk_cli.specs.declared.failure.ErrorCode.TheVariants as failure
+use Rattle.desk_program.specs.{Keeping.bytes_written, Keeping.ended, Enrolling.IsTextPrinted, Enrolling.checked_line, Enrolling.copied_line}
+use Rattle.desk_program.specs.declared.looking.CheckedFile.{CheckedFile}
+use Rattle.host_files.specs.Naming.{Steps, Follows, HasFailedStep, IsNamed, IsUnnamed, Synced, free_steps, named_steps, Reports}
+use Rattle.desk_admin.specs.declared.{keeping.Writers.Writers, keeping.CopyError.CopyError, unopened.OpenError.OpenError}
 
+-- the steps in folders; the bytes printed to the output; and how the command ended, with what went to errors
+pub record AdminOutside : Type 0 where
+  pub steps : Steps
+  pub writes : Course (Option (List ℕ))
+  pub end : Ending
+
+-- these effects, by the command's writers before and after, its steps in folders, and its exit report
+abbrev pub admin_outside :
+    {W E : Type 0} → write.Ghosts W → write.Ghosts E → Writers W E → Writers W E → Steps → ExitReport E
+    → AdminOutside
+admin_outside w e old new steps exit = record {
+  steps = steps;
+  writes = bytes_written w old.output new.output;
+  end = ended e exit old.errors new.errors;
+}
+
+-- ==== The errors of a database that can't be opened
+-- the error code with which the program ends, by why the database can't be opened
+abbrev pub open_failure : OpenFault → ErrorCode
+open_failure opening.OutOfMemory = failure.Memory
+open_failure opening.Store = failure.Store
+open_failure opening.NotADesk = failure.NotADesk
+open_failure opening.OldSchema = failure.OldSchema
+
+-- the error code is one of a database that can't be opened
+abbrev pub IsOpenFailure : ErrorCode → Type 0
+IsOpenFailure f = (fault : OpenFault) × (f ≡ open_failure fault)
+
+-- the error is that of this fault, and no files were opened
+pub record IsUnreadFor {D : Type 0} {g : disk.Ghosts D} (it : OpenError D g)
+    (fault : OpenFault) : Type 0 where
+  pub failure : it.failure ≡ open_failure fault
+  pub refused : it.refused ≡ None
+
+-- the error is that of files that were refused, and `Refused` holds of these files
+pub record FailsOver {D : Type 0} {g : disk.Ghosts D} (Refused : FilesFault D g → Type 0) (it : OpenError D g)
+    : Type 0 where
+  pub files : FilesFault D g
+  pub are : IsSomeAnd it.refused (λ s. s.value ≡ files)
+  pub failure : it.failure ≡ open_failure files.fault
+  pub refused : Refused files
+
+-- what was opened, or only the error code
+abbrev pub or_failure : {D T : Type 0} {g : disk.Ghosts D} → Result T (OpenError D g) → Result T ErrorCode
+or_failure (Ok it) = Ok it
+or_failure (Err unread) = Err unread.failure
+
+-- the database is in memory: it has no file
+abbrev pub IsInMemory : Database → Type 0
+IsInMemory database = file_of database ≡ None
+
+-- the words for an invalid part of a file
+abbrev pub part_text : InvalidPart → List ℕ
+part_text part.NoTable = codes "no table"
+part_text part.OtherTables = codes "other tables than a desk's"
+part_text part.BothSchemas = codes "rows of schema 1 beside rows of schema 2"
+part_text part.Operator = codes "rows of no content in operator"
+part_text part.Plan = codes "rows of no content in plan"
+part_text part.Plans = codes "plans of no operator, or too many of one, in plan"
+part_text part.Volume = codes "rows of no content in volume2"
+part_text part.Cover = codes "covers of no content in volume2"
+part_text part.Span = codes "rows of no content in span2"
+part_text part.OldVolume = codes "rows of no content in volume"
+part_text part.OldSpan = codes "rows of no content in span"
+part_text part.OldPlan = codes "plans beyond the limits of schema 1 in volume"
+
+-- the words for the invalid part that was found; if none was found, what may be wrong
+abbrev pub named_text : Option InvalidPart → List ℕ
+named_text None = codes "no table, other tables than a desk's, or rows of no content"
+named_text (Some it) = part_text it
+
+-- the text is a cause for a file that is no valid database: its tables are in a non-canonical order, or an
+-- invalid part was found, or none was
+abbrev pub IsNoDeskText : List ℕ → Type 0
+IsNoDeskText text = (text ≡ order_text) ⊎ ((part : Option InvalidPart) × (text ≡ named_text part))
+
+-- ==== What `check` reports of a file, and what `copy` copies of it
 -- a command fails: first the cause is reported, perhaps with no text; then the line of the error code f is
 -- printed, and the exit status is that of f
 pub record FailsReporting (f : ErrorCode) (end : Ending) : Type 0 where
@@ -42,8 +110,7 @@ pub record FailsReporting (f : ErrorCode) (end : Ending) : Type 0 where
   pub cause : Reports (course end.before between)
   pub fails : FailsWith f (record end { before = between })
 
--- the counts of the operators, plans, live plans, spans and cells in the statistics are those of the content
--- w
+-- the statistics' counts of operators, plans, live plans, spans and cells are those of the content w
 pub record ReportsHoldings (file : CheckedFile) (w : World) : Type 0 where
   pub operators : file.operators ≡ length w.operators
   pub plans : file.plans ≡ length w.plans
@@ -53,8 +120,7 @@ pub record ReportsHoldings (file : CheckedFile) (w : World) : Type 0 where
   pub most_cells : IsMostCells w.plans file.most_cells
 
 module _ {D : Type 0} {g : disk.Ghosts D} (image : Image) where
-  -- a connection (left) read files that held the image, and left their content; the statistics are those of
-  -- it
+  -- a connection (left) read files holding the image, and left their content; the statistics are those of it
   pub record IsReadAs (left : Held (FileStore D g)) (file : CheckedFile) : Type 0 where
     pub w : World
     pub reported : ReportsHoldings file w
@@ -91,7 +157,6 @@ module _ {D : Type 0} {g : disk.Ghosts D} (image : Image) where
   IsChecked database end (Err it) writes = IsUnreported database end it writes
 
 -- ---- a copy
-
 -- the error has the code f, and no refused or unclosed files
 pub record FailsUntried {R M U : Type 0} (f : ErrorCode) (it : CopyError R M U) : Type 0 where
   pub failure : it.failure ≡ f

@@ -1,35 +1,46 @@
--- Scratch copies: files that are read by a copy beside them, which is removed afterwards.
-use Rattle.std.specs.Prelude.{◌≡◌, ◌≢◌, ◌⊎◌, ℕ, Bool, List, ◌++◌, codes, decimal, string_bytes}
-use Rattle.std.specs.Prelude.{MatchOption, Option, None, Some, Result, Ok, Err}
+-- Files that are read by a scratch copy, and files that are put in canonical order before they are read.
+use Rattle.std.specs.Prelude.{ℕ, Result, Ok, Err, ◌≡◌, ◌≢◌, ◌⊎◌, Bool, List, ◌++◌, codes, decimal, string_bytes, MatchOption, Option, None, Some, ⊤, true, false, [], ◌∷◌}
+use Rattle.std.specs.declared.io.ErrorKind.{ErrorKind}
+use Rattle.std.specs.Result.{IsErrAnd}
 use Rattle.sqlite_disk.specs.declared.Disk as disk
 use Rattle.sqlite_wal.specs.Recovery.{Image}
 use Rattle.sqlite_store.specs.declared.store.FileStore.{FileStore}
-use Rattle.sqlite.specs.Held.{Held}
-use Rattle.desk_wire.specs.Passage.{Course, course}
-use Rattle.desk_cli.specs.declared.failure.ErrorCode.{ErrorCode}
+use Rattle.sqlite.specs.{Files.over_files, Held.Held}
+use Rattle.desk_wire.specs.Streams.{Course, course}
+use Rattle.db_file.specs.Orders.{order_text}
+use Rattle.table_load.specs.{Moving.AreStatsOf, Files.IsSettledAt}
+use Rattle.table_load.specs.declared.looking.DbStats.{DbStats}
+use Rattle.desk_tables.specs.{Copying.IsMadeIn, Copying.LooksIn, Store.Shown}
+use Rattle.desk_cli.specs.declared.{failure.ErrorCode.ErrorCode, line.CopyArgs.CopyArgs as CopyWords, line.Database.Database}
 use Rattle.desk_cli.specs.declared.failure.ErrorCode.TheVariants as failure
-use Rattle.desk_cli.specs.declared.line.CopyArgs.{CopyArgs as CopyWords}
-use Rattle.desk_cli.specs.declared.line.Database.{Database}
-use Rattle.desk_cli.specs.Exits.{Ending, FailsWith, IsLineBreakdown}
-use Rattle.desk_cli.specs.Lines.{file_of}
-use Rattle.desk_program.specs.Looking.{IsTextPrinted, checked_line}
+use Rattle.desk_cli.specs.{Exits.Ending, Exits.FailsWith, Exits.IsLineBreakdown, Lines.file_of}
+use Rattle.desk_program.specs.Enrolling.{IsTextPrinted, checked_line}
 use Rattle.desk_program.specs.declared.looking.CheckedFile.{CheckedFile}
-use Rattle.desk_admin.specs.declared.unopened.OpenError.{OpenError}
-use Rattle.desk_admin.specs.declared.scratch_copies.Rows.{Rows}
-use Rattle.desk_admin.specs.declared.scratch_copies.Rows.TheVariants as rows
+use Rattle.host_files.specs.declared.files.Found.{Found}
+use Rattle.host_files.specs.Naming.{Follows, LeavesOthers, Step, Steps, IsWrittenIfRoom, line_of, Reports, Failed, Ordered}
 use Rattle.desk_host.specs.declared.ways.ReadMode.{ReadMode}
 use Rattle.desk_host.specs.declared.ways.ReadMode.TheVariants as way
-use Rattle.desk_admin.specs.FilesReported.{CopyOutcome, FailsReporting, FailsToRead, IsCopied, IsNamedIf, IsReadAs}
-use Rattle.desk_admin.specs.AdminOutside.{AdminOutside}
-use Rattle.host_files.specs.Naming.{Follows, LeavesOthers, Step, Steps}
-use Rattle.desk_host.specs.Scratch.{AreRemoved, IsNotCopied, make_steps, scratch_of}
-use Rattle.host_files.specs.Reporting.{IsWrittenIfRoom, line_of}
-use Rattle.desk_admin.specs.Unopened.{IsInMemory}
-use Rattle.db_file.specs.Orders.{order_text}
-use Rattle.desk_host.specs.Ways.{is_mended, untested_pages}
+use Rattle.desk_host.specs.FoundLogs.{AreRemoved, IsNotCopied, make_steps, scratch_of, is_mended, untested_pages}
+use Rattle.desk_admin.specs.declared.{unopened.OpenError.OpenError, scratch_copies.Rows.Rows}
+use Rattle.desk_admin.specs.declared.scratch_copies.Rows.TheVariants as rows
+use Rattle.desk_admin.specs.FilesReported.{CopyOutcome, FailsReporting, FailsToRead, IsCopied, IsNamedIf, IsReadAs, AdminOutside, IsInMemory}
 
+-- the size in bytes of what was found at a path; 0 if nothing can be reached
+abbrev pub found_size : Result Found ErrorKind → ℕ
+found_size (Ok found) = found.len
+found_size (Err kind) = 0
+
+-- a connection read files that held the image, and left their content; a store of that content was made in
+-- new files, which held the other before; and the statistics are those of the content
+pub record IsStoredAs {D E : Type 0} {g : disk.Ghosts D} {k : disk.Ghosts E} (image other : Image)
+    (copied : Held (FileStore D g) × (Shown (FileStore E k) × DbStats)) : Type 0 where
+  pub counted : AreStatsOf copied.1.1 copied.1.0.world
+  pub looks : LooksIn image copied.0 copied.1.1.is_old copied.1.0.world
+  pub made : IsMadeIn other copied.1.0.held
+  pub settled : IsSettledAt over_files copied.1.0.held copied.1.0.world
+
+-- ==== Scratch copies: files that are read by a copy beside them, which is removed afterwards
 -- ---- what is reported
-
 -- the words for what is known of the rows of a file with wrong checksums
 abbrev pub rows_text : Rows → List ℕ
 rows_text rows.OfADesk = codes "are a desk's"
@@ -90,7 +101,6 @@ IsScratchRefused path (way.BadChecksums pages) f end = AreRowsRefused path pages
 IsScratchRefused path way.OtherOrder f end = FailsReporting f end
 
 -- ---- check
-
 module _ {D : Type 0} {g : disk.Ghosts D} (image : Image) (path : List ℕ) (way : ReadMode) where
   -- the scratch copy was read as a valid database: what is wrong with the file is reported, and then the
   -- statistics are printed
@@ -128,7 +138,6 @@ pub record WasScratch (source scratch : List ℕ) (mended : Bool) (steps : Steps
   pub removed : AreRemoved scratch (course from steps.after)
 
 -- ---- copy
-
 -- if a file with wrong checksums was copied (the status is 0), it is reported that only its rows were tested;
 -- else nothing is reported
 abbrev pub IsTestReported : List ℕ → ReadMode → ℕ → Course (Option (List ℕ)) → Type 0
@@ -168,3 +177,87 @@ module _ {D E : Type 0} {g : disk.Ghosts D} {k : disk.Ghosts E} (image other : I
     IsCopiedByScratchIf None o =
         FailsWithoutScratch (scratch_of (string_bytes words.to)) o ⊎ HasNoFile words.database o
     IsCopiedByScratchIf (Some copied) o = IsCopiedByScratch copied o
+
+-- ==== A command's file is put in canonical order, once its scratch copy was read as a valid database
+-- what is reported once a file was reordered
+abbrev pub reordered_text : List ℕ
+reordered_text = codes "its tables are put in a desk's own order"
+
+-- a file is reordered; or that step failed, and the error code is `Store`
+abbrev pub IsOrderedOr : List ℕ → Result ⊤ ErrorCode → Steps → Type 0
+IsOrderedOr path (Ok done) steps = Follows steps (Ordered path ∷ [])
+IsOrderedOr path (Err f) steps = (f ≡ failure.Store) × Follows steps (Failed ∷ [])
+
+-- the same if its scratch copy was admitted; else nothing is done in the folder, and the error code is that
+-- of the refused scratch copy
+abbrev pub IsOrderedIf : List ℕ → Result ⊤ ErrorCode → Result ⊤ ErrorCode → Steps → Type 0
+IsOrderedIf path (Ok it) done steps = IsOrderedOr path done steps
+IsOrderedIf path (Err f) done steps = (done ≡ Err f) × (steps.after ≡ steps.before)
+
+module _ {D : Type 0} {g : disk.Ghosts D} (image : Image) (takes : Bool) where
+  -- a scratch copy was read as a valid database that the command accepts
+  pub record IsTaken (left : Held (FileStore D g)) : Type 0 where
+    pub file : CheckedFile
+    pub read : IsReadAs image left file
+    pub taken : takes ≡ false → file.is_old ≡ false
+
+  -- a scratch copy was read as a valid database of schema 1, and the command doesn't accept that
+  pub record IsTooOld (left : Held (FileStore D g)) (f : ErrorCode) : Type 0 where
+    pub file : CheckedFile
+    pub read : IsReadAs image left file
+    pub untaken : takes ≡ false
+    pub old : file.is_old ≡ true
+    pub failure : f ≡ failure.OldSchema
+
+  -- a scratch copy is admitted or refused, by what was read in it: a database that the command accepts; one
+  -- of schema 1 that it doesn't accept; or no valid database, with the error code of that
+  abbrev pub IsAdmitted : Result ⊤ ErrorCode → Result (Held (FileStore D g)) (OpenError D g) → Type 0
+  IsAdmitted (Ok it) (Ok left) = IsTaken left
+  IsAdmitted (Err f) (Ok left) = IsTooOld left f
+  IsAdmitted admitted (Err unread) = FailsToRead image unread × (admitted ≡ Err unread.failure)
+
+module _ {D : Type 0} {g : disk.Ghosts D} (image : Image) (path : List ℕ) (takes : Bool) where
+  -- the scratch copy of the file at the path is admitted or refused, then removed; then the file is
+  -- reordered, if the scratch copy was admitted
+  pub record IsOrderedByScratch (done : Result ⊤ ErrorCode)
+      (judged : Result (Held (FileStore D g)) (OpenError D g)) (steps : Steps) : Type 0 where
+    pub admitted : Result ⊤ ErrorCode
+    pub between : Option (List Step)
+    pub is : IsAdmitted image takes admitted judged
+    pub removed : AreRemoved (scratch_of path) (course steps.before between)
+    pub ordered : IsOrderedIf path admitted done (course between steps.after)
+
+  -- the scratch copy is made of the file, and then all of this follows
+  pub record WasJudged (done : Result ⊤ ErrorCode)
+      (judged : Result (Held (FileStore D g)) (OpenError D g)) (steps : Steps) : Type 0 where
+    pub from : Option (List Step)
+    pub made : Follows (course steps.before from) (make_steps path (scratch_of path) true)
+    pub ordered : IsOrderedByScratch done judged (course from steps.after)
+
+  -- a file in non-canonical order: all of this; or no scratch copy can be made, and the error code says why
+  abbrev pub IsReordered :
+      Result ⊤ ErrorCode → Option (Result (Held (FileStore D g)) (OpenError D g)) → Steps → Type 0
+  IsReordered done (Some judged) steps = WasJudged done judged steps
+  IsReordered done None steps = IsErrAnd done (λ f. IsLineBreakdown f × IsNotCopied (scratch_of path) steps f)
+
+  -- nothing is done with a file whose tables are in canonical order
+  abbrev pub IsLeftAlone :
+      Result ⊤ ErrorCode → Option (Result (Held (FileStore D g)) (OpenError D g)) → Steps → Type 0
+  IsLeftAlone done judged steps = (done ≡ Ok tt) × (judged ≡ None) × (steps.after ≡ steps.before)
+
+  -- one or the other, by how the file has to be read
+  abbrev pub IsReorderedIf :
+      ReadMode → Result ⊤ ErrorCode → Option (Result (Held (FileStore D g)) (OpenError D g)) → Steps → Type 0
+  IsReorderedIf way.OtherOrder done judged steps = IsReordered done judged steps
+  IsReorderedIf _ done judged steps = IsLeftAlone done judged steps
+
+-- the line that reports that a file was reordered
+abbrev pub reordered_line : List ℕ → List ℕ
+reordered_line path = line_of path reordered_text
+
+-- what is reported: that the file was reordered; nothing, if it was left alone; or why it failed
+abbrev pub IsReorderReported :
+    {X : Type 0} → List ℕ → Result ⊤ ErrorCode → Option X → Course (Option (List ℕ)) → Type 0
+IsReorderReported path (Ok done) None writes = writes.after ≡ writes.before
+IsReorderReported path (Ok done) (Some judged) writes = IsWrittenIfRoom (reordered_line path) writes
+IsReorderReported path (Err f) judged writes = Reports writes

@@ -2,10 +2,10 @@
 //! `errors`, perhaps none, and not what it says.
 
 ghost use Rattle.std.specs.Prelude.{◌≡◌, IfErr, IfOk, None};
-ghost use Rattle.desk_program.specs.Outside.{bytes_written};
-ghost use Rattle.host_files.specs.Reporting.{Reports};
-ghost use Rattle.desk_admin.specs.Causes as spec;
-ghost use Rattle.desk_admin.specs.Causes.{IsNoDeskText};
+ghost use Rattle.desk_program.specs.Keeping.{bytes_written};
+ghost use Rattle.host_files.specs.Naming.{Reports};
+ghost use Rattle.desk_admin.specs.FilesReported as spec;
+ghost use Rattle.desk_admin.specs.FilesReported.{IsNoDeskText};
 
 use db_file::order_text;
 use desk_cli::{Database, ErrorCode};

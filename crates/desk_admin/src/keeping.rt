@@ -1,24 +1,15 @@
 //! The commands `check` and `copy` on a database file.
 
-ghost use Rattle.std.specs.Prelude.{◌≡◌, ℕ, [], List, IfErr, IfOk, IfSome, Ok};
-ghost use Rattle.std.specs.Prelude.{OnErr, OnOk, option_copied, string_bytes, unwrap_or};
-ghost use Rattle.sqlite_wal.specs.Files.{image_at};
-ghost use Rattle.sqlite_wal.specs.Recovery.{Image};
+ghost use Rattle.std.specs.Prelude.{◌≡◌, ℕ, [], List, IfErr, IfOk, IfSome, Ok, OnErr, OnOk, option_copied, string_bytes, unwrap_or};
+ghost use Rattle.sqlite_wal.specs.{Files.image_at, Recovery.Image};
 ghost use Rattle.desk_store.specs.World.{World};
-ghost use Rattle.desk_program.specs.Looking.{IsTextPrinted, copied_line};
-ghost use Rattle.desk_program.specs.Outside.{bytes_written, ended};
-ghost use Rattle.table_load.specs.HeldContent.{AreStatsOf};
+ghost use Rattle.desk_program.specs.{Enrolling.IsTextPrinted, Enrolling.copied_line, Keeping.bytes_written, Keeping.ended};
+ghost use Rattle.table_load.specs.Moving.{AreStatsOf};
 ghost use Rattle.desk_tables.specs.Copying.{AreNotCopied};
-ghost use Rattle.desk_admin.specs.FilesReported.{FailsAtFiles, FailsBy, FailsReporting, FailsToCopy, FailsToLook};
-ghost use Rattle.desk_admin.specs.FilesReported.{FailsToRead};
-ghost use Rattle.desk_admin.specs.FilesReported.{FailsUntried, IsChecked, IsCopied, IsCopyMade, IsNamedIf, IsReadAs};
-ghost use Rattle.desk_admin.specs.FilesReported.{IsAsCopied, IsNamedNow, ReportsHoldings};
-ghost use Rattle.host_files.specs.Reporting.{Reports};
-ghost use Rattle.desk_admin.specs.Stored.{IsStoredAs, found_size};
-ghost use Rattle.desk_admin.specs.AdminOutside.{admin_outside};
-ghost use Rattle.host_files.specs.Naming.{AreNames, ChangesOwn, Follows, GivesUp, HasFailedStep, IsNotFree};
-ghost use Rattle.host_files.specs.Naming.{IsUnnamed, LeavesOthers, Synced, TakesAll, free_steps, named_steps};
-ghost use Rattle.host_files.specs.FolderSteps.{steps_of};
+ghost use Rattle.desk_admin.specs.FilesReported.{FailsAtFiles, FailsBy, FailsReporting, FailsToCopy, FailsToLook, FailsToRead, FailsUntried, IsChecked, IsCopied, IsCopyMade, IsNamedIf, IsReadAs, IsAsCopied, IsNamedNow, ReportsHoldings, admin_outside};
+ghost use Rattle.host_files.specs.Naming.{Reports, AreNames, ChangesOwn, Follows, GivesUp, HasFailedStep, IsNotFree, IsUnnamed, LeavesOthers, Synced, TakesAll, free_steps, named_steps};
+ghost use Rattle.desk_admin.specs.ScratchCopies.{IsStoredAs, found_size};
+ghost use Rattle.host_files.specs.Paths.{steps_of};
 
 use crate::causes::{report_cause, report_database};
 use crate::unopened::{FileOpenError, OpenError, open_failure};

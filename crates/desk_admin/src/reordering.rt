@@ -2,18 +2,14 @@
 //! of the file is read first: only a valid database is reordered.
 
 ghost use Rattle.std.specs.Prelude.{◌≡◌, IfErr, IfNone, IfOk, Ok, OnErr, OnOk, false, true};
-ghost use Rattle.sqlite_wal.specs.Files.{image_at};
-ghost use Rattle.sqlite_wal.specs.Recovery.{Image};
+ghost use Rattle.sqlite_wal.specs.{Files.image_at, Recovery.Image};
 ghost use Rattle.desk_cli.specs.Lines.{file_of};
-ghost use Rattle.desk_program.specs.Outside.{bytes_written};
-ghost use Rattle.desk_admin.specs.FilesReported.{FailsToRead, IsReadAs};
-ghost use Rattle.host_files.specs.FolderSteps.{steps_of};
-ghost use Rattle.desk_admin.specs.Reordering as spec;
-ghost use Rattle.desk_admin.specs.Reordering.{IsAdmitted, IsOrderedByScratch, IsOrderedOr, IsReorderReported, IsReordered};
-ghost use Rattle.desk_admin.specs.Reordering.{IsReorderedIf};
-ghost use Rattle.desk_admin.specs.Unopened.{IsOpenFailure};
-ghost use Rattle.desk_host.specs.Scratch.{AreScratchPaths};
-ghost use Rattle.host_files.specs.Reporting.{IsWrittenIfRoom, Reports};
+ghost use Rattle.desk_program.specs.Keeping.{bytes_written};
+ghost use Rattle.desk_admin.specs.FilesReported.{FailsToRead, IsReadAs, IsOpenFailure};
+ghost use Rattle.host_files.specs.{Paths.steps_of, Naming.IsWrittenIfRoom, Naming.Reports};
+ghost use Rattle.desk_admin.specs.ScratchCopies as spec;
+ghost use Rattle.desk_admin.specs.ScratchCopies.{IsAdmitted, IsOrderedByScratch, IsOrderedOr, IsReorderReported, IsReordered, IsReorderedIf};
+ghost use Rattle.desk_host.specs.FoundLogs.{AreScratchPaths};
 
 use crate::causes::report_cause;
 use crate::keeping::look_in;

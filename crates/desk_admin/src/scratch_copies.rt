@@ -2,18 +2,13 @@
 //! afterwards. The file itself isn't opened as a database, and so isn't changed.
 
 ghost use Rattle.std.specs.Prelude.{◌≡◌, IfErr, IfOk, IfSome, string_bytes};
-ghost use Rattle.sqlite_wal.specs.Files.{image_at};
-ghost use Rattle.sqlite_wal.specs.Recovery.{Image};
-ghost use Rattle.desk_program.specs.Outside.{bytes_written, ended};
-ghost use Rattle.desk_admin.specs.FilesReported.{FailsReporting, FailsToRead, IsReadAs};
-ghost use Rattle.desk_admin.specs.AdminOutside.{admin_outside};
-ghost use Rattle.host_files.specs.FolderSteps.{steps_of};
-ghost use Rattle.desk_host.specs.Scratch.{scratch_of};
+ghost use Rattle.sqlite_wal.specs.{Files.image_at, Recovery.Image};
+ghost use Rattle.desk_program.specs.Keeping.{bytes_written, ended};
+ghost use Rattle.desk_admin.specs.FilesReported.{FailsReporting, FailsToRead, IsReadAs, admin_outside};
+ghost use Rattle.host_files.specs.{Paths.steps_of, Naming.IsWrittenIfRoom};
+ghost use Rattle.desk_host.specs.FoundLogs.{scratch_of, is_mended};
 ghost use Rattle.desk_admin.specs.ScratchCopies as spec;
-ghost use Rattle.desk_admin.specs.ScratchCopies.{AreRowsRefused, IsCopiedByScratchIf, IsJudged, IsJudgedIf, IsWrittenIfAny};
-ghost use Rattle.desk_admin.specs.ScratchCopies.{IsTestReported, IsScratchRefused, WasScratch};
-ghost use Rattle.host_files.specs.Reporting.{IsWrittenIfRoom};
-ghost use Rattle.desk_host.specs.Ways.{is_mended};
+ghost use Rattle.desk_admin.specs.ScratchCopies.{AreRowsRefused, IsCopiedByScratchIf, IsJudged, IsJudgedIf, IsWrittenIfAny, IsTestReported, IsScratchRefused, WasScratch};
 
 use crate::causes::report_cause;
 use crate::keeping::{Copies, CopyEnd, ReadConnection, Starts, Writers, copy_file, look_in};

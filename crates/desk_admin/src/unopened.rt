@@ -3,9 +3,9 @@
 ghost use Rattle.std.specs.Prelude.{◌≡◌};
 ghost use Rattle.std.specs.Option.{IsSomeAnd};
 ghost use Rattle.desk_cli.specs.Exits.{failure_word};
-ghost use Rattle.table_load.specs.OpenWords.{open_word};
-ghost use Rattle.desk_admin.specs.Unopened as spec;
-ghost use Rattle.desk_admin.specs.Unopened.{IsUnreadFor};
+ghost use Rattle.table_load.specs.OpeningSteps.{open_word};
+ghost use Rattle.desk_admin.specs.FilesReported as spec;
+ghost use Rattle.desk_admin.specs.FilesReported.{IsUnreadFor};
 
 use desk_cli::ErrorCode;
 use desk_tables::{FilesFault, OpenFault};
@@ -48,7 +48,7 @@ impl<D: Disk + Drop> OpenError<D> {
 
 impl<D: Disk + Drop> From<AllocError> for OpenError<D> {
     ghost use Rattle.table_load.specs.declared.fault.OpenFault.TheVariants.{OutOfMemory};
-    ghost use Rattle.desk_admin.specs.Unopened.{IsUnreadFor};
+    ghost use Rattle.desk_admin.specs.FilesReported.{IsUnreadFor};
 
     ghost from_gives = { λ _ it. IsUnreadFor it OutOfMemory };
 

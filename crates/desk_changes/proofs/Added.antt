@@ -23,9 +23,8 @@ use Rattle.sqlite_value.specs.Keys.{plain, first_key}
 use Rattle.sqlite_tied.specs.Compute.{everything}
 use Rattle.desk_sql.specs.Schema.{desk_schema, operator_table, plan_table, volume_table, span_table, to_operator, to_plan}
 use Rattle.desk_sql.specs.Rows.{IsDesk, columns, operator_row, tables_of}
-use Rattle.desk_changes.specs.Batches.{volume_columns, volume_row_in, volume_params, span_columns, span_row_in}
+use Rattle.desk_changes.specs.RowChanges.{volume_columns, volume_row_in, volume_params, span_columns, span_row_in, plan_row_in}
 use Rattle.desk_sql.specs.Statements.{enforced}
-use Rattle.desk_changes.specs.RowChanges.{plan_row_in}
 use Rattle.desk_changes.specs.declared.writing.PlanRecord.{PlanRecord}
 use Rattle.desk_changes.specs.declared.writing.VolumeRecord.{VolumeRecord}
 use Rattle.desk_changes.specs.declared.writing.SpanRecord.{SpanRecord}

@@ -11,14 +11,12 @@ use Rattle.sqlite.specs.Effect.{Database, IsDatabase}
 use Rattle.sqlite.specs.declared.error.Error.{Error}
 use Rattle.sqlite.specs.Held.{Held, state}
 use Rattle.desk_sql.specs.Rows.{IsDesk, Tables, tables_of, AddsVolume, AddsSpan}
-use Rattle.desk_sql.specs.Effects.{Makes, IsUnderWay}
-use Rattle.desk_sql.specs.Frames.{Remembers}
-use Rattle.desk_sql.specs.Finding.{Holds}
-use Rattle.desk_sql.specs.Refusals.{IsRefusal}
+use Rattle.desk_sql.specs.Effects.{Makes, IsUnderWay, Remembers, Holds}
+use Rattle.desk_sql.specs.Statements.{IsRefusal}
 use Rattle.desk_sql.proofs.lemmas.Rowid.{refusal_on}
 use Rattle.desk_sql.proofs.lemmas.Leaving.{remembers_itself, remembers_survived, remembers_then}
-use Rattle.desk_changes.specs.Batches.{AddsVolumes, AddsSpans}
-use Rattle.desk_sql.specs.QueryEnds.{IsChanged}
+use Rattle.desk_changes.specs.RowChanges.{AddsVolumes, AddsSpans}
+use Rattle.desk_sql.specs.Queries.{IsChanged}
 
 pub record HasAdded {S : Type 0} (g : Ghosts S) (old now : Held S)
     (Changes : Tables → Tables → Type 0) : Type

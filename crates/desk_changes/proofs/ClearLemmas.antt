@@ -10,7 +10,7 @@ use Rattle.sqlite_value.specs.declared.value.Value.TheVariants.{Text}
 use Rattle.sqlite_value.proofs.OrderLemmas.{value_cmp_total}
 use Rattle.sqlite.specs.Order.{Row, column, value_cmp}
 use Rattle.desk_sql.specs.Rows.{Tables, is_text, is_row_by, is_of, is_not_of, left_without, RemovesPlan}
-use Rattle.desk_changes.specs.Batches.{RemovesPlans, is_of_none, ids_stored}
+use Rattle.desk_changes.specs.RowChanges.{RemovesPlans, is_of_none, ids_stored}
 
 -- ---- ids that a row has
 

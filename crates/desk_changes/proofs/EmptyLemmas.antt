@@ -15,7 +15,7 @@ use Rattle.sqlite_schema.specs.declared.schema.Keys.TheVariants.{Enforced}
 use Rattle.desk_sql.specs.Schema.{desk_schema, old_volume_table, old_span_table}
 use Rattle.desk_sql.specs.Rows.{IsDesk, AreNumbered, columns, cover_columns, tables_of, RemovesOldVolumes, RemovesOldSpans}
 use Rattle.desk_sql.specs.Statements.{Changes}
-use Rattle.desk_changes.specs.Putting.{TakesRoom, TextTakes}
+use Rattle.desk_changes.specs.RowChanges.{TakesRoom, TextTakes}
 use Rattle.desk_sql.proofs.lemmas.OldTexts.{empty_old_volumes_text, empty_old_spans_text, empty_query, empty_old_volumes_is, empty_old_spans_is}
 use Rattle.desk_sql.proofs.lemmas.Number.{unequal, removed}
 use Rattle.desk_sql.proofs.lemmas.Write.{May, did, changes_by, rows_written, task_at}

@@ -19,9 +19,8 @@ use Rattle.desk_sql.specs.Rows.{IsDesk, AreNumbered, VolumeColumns, SpanColumns,
 use Rattle.desk_changes.specs.declared.writing.PlanRecord.{PlanRecord}
 use Rattle.desk_changes.specs.declared.writing.VolumeRecord.{VolumeRecord}
 use Rattle.desk_changes.specs.declared.writing.SpanRecord.{SpanRecord}
-use Rattle.desk_changes.specs.Batches.{volume_columns, volume_row_in, cover_of, volume_params, span_columns, span_row_in}
+use Rattle.desk_changes.specs.RowChanges.{volume_columns, volume_row_in, cover_of, volume_params, span_columns, span_row_in, plan_row_in}
 use Rattle.desk_sql.specs.Statements.{Changes}
-use Rattle.desk_changes.specs.RowChanges.{plan_row_in}
 use Rattle.desk_sql.proofs.lemmas.Number.{unequal, numbered_put, put_adds}
 use Rattle.desk_sql.proofs.lemmas.Texts.{insert_operator_text, insert_plan_text, insert_volume_text, insert_span_text}
 use Rattle.desk_sql.proofs.lemmas.CommandTexts.{insert_operator_is, insert_operator_terms, insert_plan_is, insert_plan_terms, insert_volume_is, insert_volume_terms, insert_span_is, insert_span_terms}

@@ -6,11 +6,10 @@ use Rattle.sqlite.specs.Order.{Row}
 use Rattle.sqlite.specs.Tree.{Trees, IsAscending}
 use Rattle.sqlite.specs.Effect.{Database}
 use Rattle.desk_sql.specs.Rows.{Tables, tables_of}
-use Rattle.desk_changes.specs.Batches.{volume_row_in, cover_of, span_row_in, AddsVolumes, AddsSpans}
+use Rattle.desk_changes.specs.RowChanges.{volume_row_in, cover_of, span_row_in, AddsVolumes, AddsSpans, AreNewRows, AreNewSpans, AreNewVolumes, AreShort, HasRoomFor, IsShortValue, TakesRoom}
 use Rattle.desk_changes.specs.declared.writing.VolumeRecord.{VolumeRecord}
 use Rattle.desk_changes.specs.declared.writing.SpanRecord.{SpanRecord}
 use Rattle.desk_sql.specs.Changing.{FitsVolume, FitsSpan, HasKey, LacksKey, has_same_key}
-use Rattle.desk_changes.specs.Putting.{AreNewRows, AreNewSpans, AreNewVolumes, AreShort, HasRoomFor, IsShortValue, TakesRoom}
 use Rattle.desk_changes.proofs.RoomLemmas.{fewer}
 
 -- ---- room after several changes

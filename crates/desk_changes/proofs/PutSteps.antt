@@ -4,11 +4,9 @@ use Rattle.sqlite.specs.Order.{Row}
 use Rattle.sqlite.specs.Store.{Ghosts}
 use Rattle.sqlite.specs.Held.{Held, state}
 use Rattle.desk_sql.specs.Rows.{plan_row, AddsPlan, RemovesPlan}
-use Rattle.desk_changes.specs.Batches.{AddsVolumes}
+use Rattle.desk_changes.specs.RowChanges.{AddsVolumes, AreNewSpans, AreNewVolumes, IsPuttable, TakesRoom}
 use Rattle.desk_sql.specs.Changing.{FitsPlan}
-use Rattle.desk_sql.specs.Effects.{Makes}
-use Rattle.desk_sql.specs.Frames.{Remembers}
-use Rattle.desk_changes.specs.Putting.{AreNewSpans, AreNewVolumes, IsPuttable, TakesRoom}
+use Rattle.desk_sql.specs.Effects.{Makes, Remembers}
 use Rattle.desk_changes.proofs.PutStops.{plan_fits, put_of, spans_new, volumes_new}
 
 -- the connection before a call, so that an answer needs no name of the call that came before

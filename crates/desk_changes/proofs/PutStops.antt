@@ -20,9 +20,8 @@ use Rattle.sqlite_schema.specs.Rules.{agree, has_null, has_parent, is_held, Obey
 use Rattle.sqlite_schema.specs.declared.schema.Among.TheVariants.{All}
 use Rattle.desk_sql.specs.Schema.{desk_schema, span_made, volume_made, to_plan}
 use Rattle.desk_sql.specs.Rows.{IsDesk, Tables, columns, is_of, is_same, plan_row, tables_of, AddsPlan, RemovesPlan}
-use Rattle.desk_changes.specs.Batches.{AddsVolumes, PlanPut}
+use Rattle.desk_changes.specs.RowChanges.{AddsVolumes, PlanPut, AreNewRows, AreNewSpans, AreNewVolumes, AreOfPlan, HasRoomFor, IsPuttable, TakesRoom}
 use Rattle.desk_sql.specs.Changing.{FitsPlan, HasKey, LacksKey, has_same_key}
-use Rattle.desk_changes.specs.Putting.{AreNewRows, AreNewSpans, AreNewVolumes, AreOfPlan, HasRoomFor, IsPuttable, TakesRoom}
 use Rattle.desk_sql.proofs.lemmas.Number.{any_map, any_same}
 use Rattle.desk_sql.proofs.lemmas.Cascade.{agrees, has_key, key_places, not_null, same_text, turned_eq}
 use Rattle.desk_sql.proofs.lemmas.Key.{obeyed_refers, plan_key}

@@ -17,7 +17,7 @@ use Rattle.sqlite_trees.proofs.TreeLemmas.{IsTable-put_row}
 use Rattle.sqlite_rules.proofs.ListLemmas.{all_has, all_from}
 use Rattle.sqlite_rules.proofs.TableLemmas.{int_is, put_has, next_after}
 use Rattle.desk_sql.specs.Changing.{AreLow}
-use Rattle.desk_changes.specs.Putting.{HasRoomFor}
+use Rattle.desk_changes.specs.RowChanges.{HasRoomFor}
 
 abbrev pub AreWhole : List Row → Type 0
 AreWhole rows = AllByRecursion (λ r. is_int (rowid r) ≡ true) rows

@@ -21,11 +21,9 @@ use Rattle.desk_sql.specs.Schema.{desk_schema, operator_table, plan_table, volum
 use Rattle.desk_changes.specs.declared.writing.PlanRecord.{PlanRecord}
 use Rattle.desk_changes.specs.declared.writing.VolumeRecord.{VolumeRecord}
 use Rattle.desk_changes.specs.declared.writing.SpanRecord.{SpanRecord}
-use Rattle.desk_changes.specs.Batches.{volume_params, span_row_in}
+use Rattle.desk_changes.specs.RowChanges.{volume_params, span_row_in, key_row, plan_row_in, HasRoomFor, TakesOperators, TakesRoom, TextCounts, TextTakes}
 use Rattle.desk_sql.specs.Rows.{IsDesk, Tables, operator_row, tables_of}
 use Rattle.desk_sql.specs.Statements.{Changes, enforced}
-use Rattle.desk_changes.specs.RowChanges.{key_row, plan_row_in}
-use Rattle.desk_changes.specs.Putting.{HasRoomFor, TakesOperators, TakesRoom, TextCounts, TextTakes}
 use Rattle.desk_sql.proofs.lemmas.Texts.{insert_operator_text, insert_plan_text, insert_volume_text, insert_span_text, remove_plan_text}
 use Rattle.desk_sql.proofs.lemmas.CommandTexts.{insert_operator_is, insert_operator_terms, insert_plan_is, insert_plan_terms, insert_volume_is, insert_volume_terms, insert_span_is, insert_span_terms, remove_plan_is}
 use Rattle.desk_sql.proofs.lemmas.Write.{Adds, adds, cast_null, did, insert_applies, ran, ran_counting, rows_written, table_at, task_at}

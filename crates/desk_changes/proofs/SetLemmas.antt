@@ -18,8 +18,7 @@ use Rattle.sqlite_schema.specs.declared.program.Program.{Program}
 use Rattle.desk_sql.specs.Schema.{operator_table, plan_table}
 use Rattle.desk_sql.specs.Rows.{IsDesk, AreNumbered, is_text, is_row_by, is_of, columns, tables_of, operator_row, plan_row, with_row, SetsOperators, SetsPlans}
 use Rattle.desk_sql.specs.Statements.{Changes}
-use Rattle.desk_changes.specs.Putting.{TextCounts, TextTakes}
-use Rattle.desk_changes.specs.RowChanges.{OperatorsStayUnless, closing_row}
+use Rattle.desk_changes.specs.RowChanges.{TextCounts, TextTakes, OperatorsStayUnless, closing_row}
 use Rattle.desk_sql.proofs.lemmas.Texts.{set_ceiling_text, close_plan_text}
 use Rattle.desk_sql.proofs.lemmas.CommandTexts.{set_ceiling_is, set_ceiling_query, close_plan_is, close_plan_query}
 use Rattle.desk_sql.proofs.lemmas.Read.{equals_text}

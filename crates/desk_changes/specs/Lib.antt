@@ -1,4 +1,1 @@
--- Each names those before it.
-pub mod Batches
-pub mod Putting
 pub mod RowChanges

@@ -1,21 +1,190 @@
--- The parameters of each change, what it does, and what it has to fit.
-use Rattle.std.specs.Prelude.{⊤, ◌≡◌, pos, Bool, false, List, ℕ, [], ◌∷◌, filter, length, map}
-use Rattle.std.specs.List.{list_any}
-use Rattle.sqlite.specs.declared.types.Value.TheVariants.{Int, Text}
-use Rattle.sqlite.specs.Order.{Row}
-use Rattle.sqlite.specs.Tree.{Trees}
-use Rattle.sqlite.specs.Effect.{Database}
-use Rattle.desk_changes.specs.declared.writing.PlanRecord.{PlanRecord}
-use Rattle.desk_changes.specs.declared.writing.VolumeRecord.{VolumeRecord}
-use Rattle.desk_changes.specs.declared.writing.SpanRecord.{SpanRecord}
-use Rattle.desk_changes.specs.declared.change.RowChange.{RowChange}
-use Rattle.desk_changes.specs.declared.change.RowChange.TheVariants.{AddOperator, AddPlan, AddVolume, AddSpan, SetCeiling, SetClosed, RemovePlan, RemoveSpans, EmptyOldVolumes, EmptyOldSpans}
-use Rattle.desk_sql.specs.Rows.{Tables, tables_of, is_row_by, is_of, operator_row, plan_row, AddsOperator, AddsPlan, AddsVolume, AddsSpan, SetsOperators, SetsPlans, RemovesPlan, RemovesSpans, RemovesOldVolumes, RemovesOldSpans}
-use Rattle.desk_changes.specs.Batches.{PlanPut, volume_row_in, cover_of, volume_params, span_row_in}
-use Rattle.desk_sql.specs.Statements.{Changes}
-use Rattle.desk_sql.specs.Changing.{AreLow, IsShort, FitsOperator, FitsPlan, FitsVolume, FitsSpan, IsSureChange}
-use Rattle.desk_changes.specs.Putting.{TakesOperators, TakesRoom, TextCounts, TextTakes}
+-- Changes of rows: what each puts, what it does, and what it has to fit.
+use Rattle.std.specs.Prelude.{◌≡◌, ℕ, Bool, not, List, [], ◌∷◌, ◌++◌, filter, IsPermutation, ◌<◌, ◌+◌, ◌^◌, true, false, length, ⊤, Option, pos, map}
+use Rattle.std.specs.List.{list_any, AllByRecursion}
+use Rattle.sqlite.specs.declared.types.{Value.TheVariants.Blob, Value.TheVariants.Null, Value.TheVariants.Int, Value.TheVariants.Real, Value.TheVariants.Text, Value.Value}
+use Rattle.sqlite.specs.{Order.Row, Tree.Trees, Tree.IsAscending, Effect.Database, Listing.understood}
+use Rattle.desk_sql.specs.Rows.{Tables, VolumeColumns, SpanColumns, is_of, is_not_of, left_without, volume_row, cover_row, span_row, IsDesk, tables_of, is_row_by, operator_row, plan_row, AddsOperator, AddsPlan, AddsVolume, AddsSpan, SetsOperators, SetsPlans, RemovesPlan, RemovesSpans, RemovesOldVolumes, RemovesOldSpans}
+use Rattle.desk_sql.specs.Changing.{HasKey, HasRowids, IsShort, LacksKey, has_same_key, AreLow, FitsOperator, FitsPlan, FitsVolume, FitsSpan, IsSureChange}
+use Rattle.desk_sql.specs.{Schema.desk_schema, Statements.MayCount, Statements.MayWrite, Statements.Changes}
+use Rattle.desk_changes.specs.declared.writing.{VolumeRecord.VolumeRecord, SpanRecord.SpanRecord, PlanRecord.PlanRecord}
+use Rattle.desk_changes.specs.declared.change.{RowChange.RowChange, RowChange.TheVariants.AddOperator, RowChange.TheVariants.AddPlan, RowChange.TheVariants.AddVolume, RowChange.TheVariants.AddSpan, RowChange.TheVariants.SetCeiling, RowChange.TheVariants.SetClosed, RowChange.TheVariants.RemovePlan, RowChange.TheVariants.RemoveSpans, RowChange.TheVariants.EmptyOldVolumes, RowChange.TheVariants.EmptyOldSpans}
 
+-- the columns of a record without `canon`; its row without `canon`; its row with the key and `canon` alone
+abbrev pub volume_columns : VolumeRecord → VolumeColumns
+volume_columns v = record {
+  operator = v.operator.now;
+  id = v.id.now;
+  place = v.place;
+  lower = v.lower;
+  upper = v.upper;
+  start = v.start;
+  stop = v.stop;
+  asked = v.asked.now;
+}
+
+abbrev pub volume_row_in : VolumeRecord → Row
+volume_row_in v = volume_row (volume_columns v)
+
+abbrev pub cover_of : VolumeRecord → Row
+cover_of v = cover_row v.operator.now v.id.now v.place v.canon.now
+
+-- the whole row of `volume2`
+abbrev pub volume_params : VolumeRecord → Row
+volume_params v = volume_row_in v ++ Blob v.canon.now ∷ []
+
+-- the columns and the row of a record
+abbrev pub span_columns : SpanRecord → SpanColumns
+span_columns s = record {
+  operator = s.operator.now;
+  id = s.id.now;
+  place = s.place;
+  first = s.first;
+  last = s.last;
+  lower = s.lower;
+  upper = s.upper;
+  start = s.start;
+  stop = s.stop;
+  priority = s.priority;
+}
+
+abbrev pub span_row_in : SpanRecord → Row
+span_row_in s = span_row (span_columns s)
+
+-- the rows of volumes and their covers are added to `volume2`, and all else stays
+abbrev pub AddsVolumes : List Row → List Row → Tables → Tables → Type 0
+AddsVolumes rows covers old new = IsPermutation (rows ++ old.volumes) new.volumes
+    × IsPermutation (covers ++ old.covers) new.covers
+    × (new ≡ record old { volumes = new.volumes; covers = new.covers })
+
+-- the rows are added to `span2`, and all else stays
+abbrev pub AddsSpans : List Row → Tables → Tables → Type 0
+AddsSpans rows old new = IsPermutation (rows ++ old.spans) new.spans
+    × (new ≡ record old { spans = new.spans })
+
+-- a plan to store: its operator and id, its row, and the rows of its volumes, covers and spans
+pub record PlanPut : Type 0 where
+  pub operator : List ℕ
+  pub id : List ℕ
+  pub plan : Row
+  pub volumes : List Row
+  pub covers : List Row
+  pub spans : List Row
+
+-- the rows of the plan's former version, if there was one, are removed, and those of `put` are added
+pub record PutsPlan (put : PlanPut) (old new : Tables) : Type 0 where
+  pub operators : new.operators ≡ old.operators
+  pub plans : IsPermutation (put.plan ∷ filter (is_not_of put.operator put.id) old.plans) new.plans
+  pub old_volumes : new.old_volumes ≡ left_without put.operator put.id old old.old_volumes
+  pub old_spans : new.old_spans ≡ left_without put.operator put.id old old.old_spans
+  pub with_volumes : IsPermutation (put.volumes ++ left_without put.operator put.id old old.volumes)
+      new.volumes
+  pub with_covers : IsPermutation (put.covers ++ left_without put.operator put.id old old.covers) new.covers
+  pub with_spans : IsPermutation (put.spans ++ left_without put.operator put.id old old.spans) new.spans
+
+-- the row belongs to none of the operator's plans with these ids
+abbrev pub is_of_none : List ℕ → List (List ℕ) → Row → Bool
+is_of_none operator ids row = not (list_any (λ id. is_of operator id row) ids)
+
+-- those of the ids whose plan is stored
+abbrev pub ids_stored : List ℕ → List (List ℕ) → Tables → List (List ℕ)
+ids_stored operator ids old = filter (λ id. list_any (is_of operator id) old.plans) ids
+
+-- the operator's plans with these ids are removed, and with each that is stored its volumes and spans
+abbrev pub RemovesPlans : List ℕ → List (List ℕ) → Tables → Tables → Type 0
+RemovesPlans operator ids old new =
+    new ≡ record {
+      operators = old.operators;
+      plans = filter (is_of_none operator ids) old.plans;
+      old_volumes = filter (is_of_none operator (ids_stored operator ids old)) old.old_volumes;
+      old_spans = filter (is_of_none operator (ids_stored operator ids old)) old.old_spans;
+      volumes = filter (is_of_none operator (ids_stored operator ids old)) old.volumes;
+      covers = filter (is_of_none operator (ids_stored operator ids old)) old.covers;
+      spans = filter (is_of_none operator (ids_stored operator ids old)) old.spans;
+    }
+
+-- ==== What a plan to store has to fit: how many rowids are left, and which keys are free
+-- ---- rowids
+-- rowids are left for `count` more rows; there are 2 ^ 63 - 1 above 0
+abbrev pub HasRoomFor : ℕ → List Row → Type 0
+HasRoomFor count rows = (count < 2 ^ 63) × HasRowids count rows
+
+-- a change uses at most this many rowids of `plan` (tree 2), of `volume2` (tree 9) and of `span2` (tree 11)
+pub record TakesRoom (plans volumes spans : ℕ) (old new : Trees) : Type 0 where
+  pub of_plans : (left : ℕ) → HasRoomFor (plans + left) (old 2) → HasRoomFor left (new 2)
+  pub of_volumes : (left : ℕ) → HasRoomFor (volumes + left) (old 9) → HasRoomFor left (new 9)
+  pub of_spans : (left : ℕ) → HasRoomFor (spans + left) (old 11) → HasRoomFor left (new 11)
+
+-- a change uses at most this many rowids of `operator` (tree 0)
+abbrev pub TakesOperators : ℕ → Trees → Trees → Type 0
+TakesOperators operators old new =
+    (left : ℕ) → HasRoomFor (operators + left) (old 0) → HasRoomFor left (new 0)
+
+-- a statement that with these parameters changes a desk's b-trees as `Room` says
+pub record TextTakes (text : List ℕ) (params : Row) (Room : Trees → Trees → Type 0) : Type 0 where
+  pub room : (limit : Option ℕ) (old new : Database) → IsDesk old
+      → MayWrite text (understood desk_schema text) params limit old new → Room old.trees new.trees
+
+-- a statement that with these parameters counts a number of rows as changed for which `Counts` holds
+pub record TextCounts (text : List ℕ) (params : Row) (Counts : ℕ → Tables → Type 0) : Type 0 where
+  pub counted : (limit : Option ℕ) (old new : Database) (count : ℕ) → IsDesk old
+      → MayCount text (understood desk_schema text) params limit old new count
+      → Counts count (tables_of old.trees)
+
+-- ---- rows that are new
+-- a text or bytes are at most 100 million bytes
+abbrev pub IsShortValue : Value → Type 0
+IsShortValue Null = ⊤
+IsShortValue (Int n) = ⊤
+IsShortValue (Real x) = ⊤
+IsShortValue (Text text) = IsShort text
+IsShortValue (Blob bytes) = IsShort bytes
+
+-- all texts and bytes in each row are that short
+abbrev pub AreShort : List Row → Type 0
+AreShort rows = AllByRecursion (λ r. AllByRecursion IsShortValue r) rows
+
+-- no two of the rows have the same key; the key is the first `width` columns
+abbrev pub HaveOwnKeys : ℕ → List Row → Type 0
+HaveOwnKeys width rows = IsAscending (λ a b. has_same_key width a b ≡ false) rows
+
+-- rows that can be added one after the other: the plan of each is stored, and their keys are new. `stored`
+-- are the table's rows with their rowids, `shown` those without
+pub record AreNewRows (width : ℕ) (rows stored shown plans : List Row) : Type 0 where
+  pub short : AreShort rows
+  pub room : HasRoomFor (length rows) stored
+  pub apart : HaveOwnKeys width rows
+  pub free : AllByRecursion (λ r. LacksKey width r shown) rows
+  pub planned : AllByRecursion (λ r. HasKey 2 r plans) rows
+
+-- rows of volumes, and their covers, that can be added
+abbrev pub AreNewVolumes : List Row → List Row → Database → Type 0
+AreNewVolumes rows covers db =
+    AreNewRows 3 rows (db.trees 9) (tables_of db.trees).volumes (tables_of db.trees).plans × AreShort covers
+
+-- rows of spans that can be added
+abbrev pub AreNewSpans : List Row → Database → Type 0
+AreNewSpans rows db = AreNewRows 4 rows (db.trees 11) (tables_of db.trees).spans (tables_of db.trees).plans
+
+-- ---- a plan with its volumes and spans
+-- short rows of one plan, each with its own key of `width` columns
+pub record AreOfPlan (operator id : List ℕ) (width : ℕ) (rows : List Row) : Type 0 where
+  pub short : AreShort rows
+  pub own : AllByRecursion (λ r. is_of operator id r ≡ true) rows
+  pub apart : HaveOwnKeys width rows
+
+-- a plan that can be stored: its operator is listed, its rows are its own, and there are rowids for them
+pub record IsPuttable (put : PlanPut) (db : Database) : Type 0 where
+  pub operator_short : IsShort put.operator
+  pub id_short : IsShort put.id
+  pub listed : HasKey 1 put.plan (tables_of db.trees).operators
+  pub volumes_of : AreOfPlan put.operator put.id 3 put.volumes
+  pub short_covers : AreShort put.covers
+  pub spans_of : AreOfPlan put.operator put.id 4 put.spans
+  pub plan_room : HasRoomFor 1 (db.trees 2)
+  pub volume_room : HasRoomFor (length put.volumes) (db.trees 9)
+  pub span_room : HasRoomFor (length put.spans) (db.trees 11)
+
+-- ==== The parameters of each change, what it does, and what it has to fit
 -- the row of a record
 abbrev pub plan_row_in : PlanRecord → Row
 plan_row_in p = plan_row p.operator.now p.id.now p.priority p.usage p.aircraft
@@ -112,7 +281,6 @@ abbrev pub IsTextOf : RowChange → List ℕ → Type 0
 IsTextOf change text = Does text (given_to change) (changes change) (fits change) (takes change) (counts change)
 
 -- ---- the same for each change that has names and numbers as parameters
-
 abbrev pub DoesAddOperator : List ℕ → ℕ → List ℕ → Type 0
 DoesAddOperator name ceiling text =
     Does text (operator_row name ceiling) (AddsOperator (operator_row name ceiling))

@@ -2,16 +2,9 @@
 
 ghost use Rattle.std.specs.Prelude.{◌≡◌, ⊤, OnOk, IsTrue, length, map};
 ghost use Rattle.std.specs.String.{string_bytes};
-ghost use Rattle.sqlite.specs.Effect.{IsDatabase};
-ghost use Rattle.sqlite.specs.State.{HasCleanDisk};
-ghost use Rattle.sqlite.specs.Held.{state};
-ghost use Rattle.desk_changes.specs.Batches.{volume_row_in, cover_of, span_row_in, AddsVolumes, AddsSpans, RemovesPlans};
-ghost use Rattle.desk_sql.specs.Effects.{Makes, IsUnderWay};
-ghost use Rattle.desk_sql.specs.Frames.{Remembers};
-ghost use Rattle.desk_sql.specs.QueryEnds.{HasRefusal, IsChanged, IsUndone};
-ghost use Rattle.desk_sql.specs.Finding.{Holds};
-ghost use Rattle.desk_sql.specs.Rows.{RemovesPlan, IsDesk};
-ghost use Rattle.desk_changes.specs.Putting.{AreNewSpans, AreNewVolumes, TakesRoom};
+ghost use Rattle.sqlite.specs.{Effect.IsDatabase, State.HasCleanDisk, Held.state};
+ghost use Rattle.desk_changes.specs.RowChanges.{volume_row_in, cover_of, span_row_in, AddsVolumes, AddsSpans, RemovesPlans, AreNewSpans, AreNewVolumes, TakesRoom};
+ghost use Rattle.desk_sql.specs.{Effects.Makes, Effects.IsUnderWay, Effects.Remembers, Effects.Holds, Queries.HasRefusal, Queries.IsChanged, Queries.IsUndone, Rows.RemovesPlan, Rows.IsDesk};
 
 use crate::change::RowChange;
 use crate::execute::execute;

@@ -1,12 +1,8 @@
 //! The statements that change rows.
 
 ghost use Rattle.std.specs.Prelude.{◌≡◌, ℕ, List};
-ghost use Rattle.desk_changes.specs.declared.writing.PlanRecord.{PlanRecord as PlanRow};
-ghost use Rattle.desk_changes.specs.declared.writing.SpanRecord.{SpanRecord as SpanRow};
-ghost use Rattle.desk_changes.specs.declared.writing.VolumeRecord.{VolumeRecord as VolumeRow};
-ghost use Rattle.desk_changes.specs.RowChanges.{IsTextOf, given_to};
-ghost use Rattle.desk_changes.specs.RowChanges.{DoesAddOperator, DoesSetCeiling, DoesSetClosed};
-ghost use Rattle.desk_changes.specs.RowChanges.{DoesRemovePlan, DoesRemoveSpans};
+ghost use Rattle.desk_changes.specs.declared.writing.{PlanRecord.PlanRecord as PlanRow, SpanRecord.SpanRecord as SpanRow, VolumeRecord.VolumeRecord as VolumeRow};
+ghost use Rattle.desk_changes.specs.RowChanges.{IsTextOf, given_to, DoesAddOperator, DoesSetCeiling, DoesSetClosed, DoesRemovePlan, DoesRemoveSpans};
 
 use crate::writing::{PlanRecord, SpanRecord, VolumeRecord};
 use desk_sql::Parameters;

@@ -1,10 +1,8 @@
 //! Statements that empty the tables of version 1 of the schema.
 
 ghost use Rattle.std.specs.Prelude.{◌≡◌, ⊤};
-ghost use Rattle.desk_sql.specs.Rows.{RemovesOldVolumes, RemovesOldSpans, IsDesk};
-ghost use Rattle.desk_sql.specs.QueryEnds.{IsChanged};
-ghost use Rattle.desk_changes.specs.Putting.{TakesRoom};
-ghost use Rattle.desk_sql.specs.Finding.{Holds};
+ghost use Rattle.desk_sql.specs.{Rows.RemovesOldVolumes, Rows.RemovesOldSpans, Rows.IsDesk, Queries.IsChanged, Effects.Holds};
+ghost use Rattle.desk_changes.specs.RowChanges.{TakesRoom};
 
 use crate::change::RowChange;
 use crate::execute::execute;

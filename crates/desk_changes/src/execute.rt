@@ -1,12 +1,9 @@
 //! A change of the tables, made within a transaction.
 
 ghost use Rattle.std.specs.Prelude.{◌≡◌, IfOk};
-ghost use Rattle.sqlite.specs.State.{HasCleanDisk};
-ghost use Rattle.sqlite.specs.Held.{state};
-ghost use Rattle.desk_sql.specs.QueryEnds.{IsChanged};
+ghost use Rattle.sqlite.specs.{State.HasCleanDisk, Held.state};
+ghost use Rattle.desk_sql.specs.{Queries.IsChanged, Effects.Holds, Rows.IsDesk, Rows.tables_of};
 ghost use Rattle.desk_changes.specs.RowChanges.{changes, counts, fits, takes};
-ghost use Rattle.desk_sql.specs.Finding.{Holds};
-ghost use Rattle.desk_sql.specs.Rows.{IsDesk, tables_of};
 
 use crate::change::RowChange;
 use desk_sql::run;

@@ -1,15 +1,9 @@
 //! Whole changes of the tables, each one transaction.
 
 ghost use Rattle.std.specs.Prelude.{◌≡◌, ⊤, map};
-ghost use Rattle.desk_sql.specs.Finding.{Holds};
-ghost use Rattle.desk_sql.specs.Rows.{PutsOperator, ClosesPlan, IsDesk};
+ghost use Rattle.desk_sql.specs.{Effects.Holds, Effects.IsReady, Rows.PutsOperator, Rows.ClosesPlan, Rows.IsDesk, Changing.AreLow, Changing.HasRowids, Changing.IsShort, Queries.IsChanged, Queries.IsCommitted};
 ghost use Rattle.std.specs.String.{string_bytes};
-ghost use Rattle.desk_changes.specs.Batches.{PutsPlan, RemovesPlans};
-ghost use Rattle.desk_sql.specs.Changing.{AreLow, HasRowids, IsShort};
-ghost use Rattle.desk_changes.specs.Putting.{IsPuttable};
-ghost use Rattle.desk_changes.specs.RowChanges.{plan_put};
-ghost use Rattle.desk_sql.specs.Effects.{IsReady};
-ghost use Rattle.desk_sql.specs.QueryEnds.{IsChanged, IsCommitted};
+ghost use Rattle.desk_changes.specs.RowChanges.{PutsPlan, RemovesPlans, IsPuttable, plan_put};
 
 use crate::batch::{insert_spans, insert_volumes, remove_plans};
 use crate::change::RowChange;

@@ -1,11 +1,8 @@
 //! Rows as they are written, and the statements that add one operator or plan.
 
 ghost use Rattle.std.specs.Prelude.{◌≡◌, ⊤};
-ghost use Rattle.desk_sql.specs.Rows.{operator_row, plan_row, AddsOperator, AddsPlan, IsDesk};
-ghost use Rattle.desk_sql.specs.QueryEnds.{IsChanged};
-ghost use Rattle.desk_sql.specs.Changing.{FitsOperator, FitsPlan};
-ghost use Rattle.desk_changes.specs.Putting.{TakesOperators, TakesRoom};
-ghost use Rattle.desk_sql.specs.Finding.{Holds};
+ghost use Rattle.desk_sql.specs.{Rows.operator_row, Rows.plan_row, Rows.AddsOperator, Rows.AddsPlan, Rows.IsDesk, Queries.IsChanged, Changing.FitsOperator, Changing.FitsPlan, Effects.Holds};
+ghost use Rattle.desk_changes.specs.RowChanges.{TakesOperators, TakesRoom};
 
 use crate::change::RowChange;
 use crate::execute::execute;

@@ -4,7 +4,7 @@ use Rattle.std.proofs.lemmas.List.{map_more}
 use Rattle.std.proofs.lemmas.List.Sums.{fold_push}
 use Rattle.clap.specs.Simple.{is_simple, with_subcommand}
 use Rattle.clap.specs.Walk.{Rule, Text}
-use Rattle.desk_cli.specs.Forms.{of_kind, rule_of_row, shape_of_form}
+use Rattle.desk_cli.specs.Malformed.{of_kind, rule_of_row, shape_of_form}
 use Rattle.desk_cli.specs.Grammar.{bare_program, line_shape, program, with_lines}
 use Rattle.desk_cli.specs.declared.command.Form.{Form}
 use Rattle.desk_cli.specs.declared.command.ArgRow.{ArgRow}

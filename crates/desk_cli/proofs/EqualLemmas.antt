@@ -9,7 +9,7 @@ use Rattle.std.proofs.lemmas.Bool.Decides.{nat_tests}
 use Rattle.std.proofs.lemmas.Str.{digit_value_digit}
 use Rattle.std.proofs.lemmas.Str.Parse.{without_leading_plus_none}
 use Rattle.desk_rules.specs.Limits.{max_priority}
-use Rattle.desk_cli.specs.Equal.{is_short_number, priority_in, max_priority_digits}
+use Rattle.desk_cli.specs.Grammar.{is_short_number, priority_in, max_priority_digits}
 
 digit_range : (c : ℕ) → is_ascii_digit c ≡ true → IsInRange 48 57 c
 digit_range c h = grind (arith, nat_tests)

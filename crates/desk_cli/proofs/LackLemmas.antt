@@ -9,10 +9,9 @@ use Rattle.clap.specs.Takes.{takes}
 use Rattle.clap.specs.Values.{kind_of}
 use Rattle.clap.specs.declared.error.Error.{Error}
 use Rattle.clap.specs.declared.error.kind.ErrorKind.TheVariants as kind
-use Rattle.desk_rules.specs.Permission.{permitted_in}
+use Rattle.desk_rules.specs.Limits.{permitted_in}
 use Rattle.desk_rules.specs.declared.permission.PermitFault.{PermitFault}
-use Rattle.desk_cli.specs.Equal.{ArePermittedIn, is_comma, priority_in}
-use Rattle.desk_cli.specs.Grammar.{IsRefusedByClap, RefusesOnlyWithout, program}
+use Rattle.desk_cli.specs.Grammar.{ArePermittedIn, is_comma, priority_in, IsRefusedByClap, RefusesOnlyWithout, program}
 use Rattle.desk_cli.specs.declared.line.WordsFault.{WordsFault}
 use Rattle.desk_cli.specs.declared.line.WordsFault.TheVariants as fault
 

@@ -2,7 +2,7 @@
 use Rattle.std.proofs.Common.{◌≡◌, ◌∙◌, ◌<◌, ◌+◌, ◌++◌, ◌∷◌, [], Bor, ℕ, List, ap, get_or, length, map, sym, take}
 use Rattle.std.proofs.lemmas.List.{map_more}
 use Rattle.std.proofs.lemmas.List.Elements.{filter_map-append}
-use Rattle.desk_cli.specs.Register.{parse_enrolment_line, parse_enrolment_lines}
+use Rattle.desk_cli.specs.Malformed.{parse_enrolment_line, parse_enrolment_lines}
 use Rattle.desk_cli.specs.declared.line.Enrolment.{Enrolment}
 
 -- those of one line more

@@ -4,7 +4,7 @@ use Rattle.std.proofs.KnownBytes.{Appends-nil}
 use Rattle.std.specs.Io.KnownBytes.{Appends}
 use Rattle.io_ends.specs.Writing.{BreaksOff}
 use Rattle.io_ends.specs.declared.writing.PartialWrite.{PartialWrite}
-use Rattle.desk_cli.specs.Reporting.{IsMalformedReported, IsPrintedPart, IsReported}
+use Rattle.desk_cli.specs.Malformed.{IsMalformedReported, IsPrintedPart, IsReported}
 use Rattle.desk_cli.proofs.WrittenLemmas.{begun_part}
 
 append_nothing : (bytes : List ℕ) → bytes ≡ bytes ++ []

@@ -5,7 +5,7 @@ use Rattle.std.proofs.KnownBytes.{Appends-trans}
 use Rattle.std.specs.Io.KnownBytes.{Appends}
 use Rattle.io_ends.specs.Writing.{BreaksOff}
 use Rattle.io_ends.specs.declared.writing.PartialWrite.{PartialWrite}
-use Rattle.desk_cli.specs.Written.{IsPartlyWritten}
+use Rattle.desk_cli.specs.Exits.{IsPartlyWritten}
 
 some_left : (n : ℕ) (bytes : List ℕ) → n < length bytes → drop n bytes ≢ []
 some_left n bytes short none = omega (arith, short, ap length none, length-drop n bytes)

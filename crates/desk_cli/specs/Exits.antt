@@ -1,25 +1,37 @@
--- Exits: the status with which the program ends, and the word that it prints.
-use Rattle.std.specs.Prelude.{◌≡◌, ◌⊎◌, ℕ, ◌==◌, if◌then◌else◌, Bool, false, List, ◌++◌, codes, Option, Some, None, is_some, Result, Ok, Err}
+-- The program's exit status, the word that it prints, and what `token` and `cover` print.
+use Rattle.std.specs.Prelude.{◌≡◌, ◌≢◌, ℕ, Bool, true, false, List, [], ◌++◌, Option, ◌⊎◌, ◌==◌, if◌then◌else◌, codes, Some, None, is_some, Result, Ok, Err, ◌≤◌, ◌<◌, ⊤, ◌∷◌, length, decimal, string_bytes}
 use Rattle.std.specs.Io.KnownBytes.{Appends}
-use Rattle.desk_run.specs.declared.fault.DeskFault.{DeskFault}
-use Rattle.desk_run.specs.declared.fault.DeskFault.TheVariants as desk
 use Rattle.s2_cellid.specs.declared.tokens.TokenFault.{TokenFault}
 use Rattle.s2_cellid.specs.declared.tokens.TokenFault.TheVariants as token
-use Rattle.s2_cover.specs.declared.rect.RectFault.{RectFault}
+use Rattle.s2_cellid.specs.Cell.{face_of, level_of, first_leaf_id, last_leaf_id, read_token, token_text}
+use Rattle.s2_cover.specs.declared.{rect.RectFault.RectFault, walk.CoverFault.CoverFault, spans.Span.Span}
 use Rattle.s2_cover.specs.declared.rect.RectFault.TheVariants as rect
-use Rattle.s2_cover.specs.declared.walk.CoverFault.{CoverFault}
 use Rattle.s2_cover.specs.declared.walk.CoverFault.TheVariants as cover
-use Rattle.io_ends.specs.declared.playing.PlayEnd.{PlayEnd}
+use Rattle.s2_cover.specs.Covers.{IsCanonical, IsRanges, RectParts, rect_leaves, rect_or_fault}
+use Rattle.volume4d.specs.VolumeLimits.{max_cover}
+use Rattle.desk_run.specs.declared.fault.DeskFault.{DeskFault}
+use Rattle.desk_run.specs.declared.fault.DeskFault.TheVariants as desk
+use Rattle.io_ends.specs.declared.{playing.PlayEnd.PlayEnd, serving.ServeFault.ServeFault, serving.Served.Served, serving.Served.TheVariants.Answered, serving.Served.TheVariants.End}
 use Rattle.io_ends.specs.declared.playing.PlayEnd.TheVariants as play
-use Rattle.io_ends.specs.declared.serving.ServeFault.{ServeFault}
 use Rattle.io_ends.specs.declared.serving.ServeFault.TheVariants as serve
-use Rattle.io_ends.specs.declared.serving.Served.{Served}
-use Rattle.io_ends.specs.declared.serving.Served.TheVariants.{Answered, End}
-use Rattle.desk_cli.specs.declared.failure.ErrorCode.{ErrorCode}
+use Rattle.desk_cli.specs.declared.{failure.ErrorCode.ErrorCode, failure.ExitReport.ExitReport, line.CoverArgs.CoverArgs, line.Line.Line}
 use Rattle.desk_cli.specs.declared.failure.ErrorCode.TheVariants as failure
-use Rattle.desk_cli.specs.declared.failure.ExitReport.{ExitReport}
-use Rattle.desk_cli.specs.Written.{IsPartlyWritten, IsWrittenOrCut}
+use Rattle.desk_cli.specs.declared.line.Line.TheVariants as line
 
+-- a beginning of the bytes is written, not all of them, and nothing else
+pub record IsPartlyWritten (bytes : List ℕ) (out now : Option (List ℕ)) : Type 0 where
+  pub begun : List ℕ
+  pub rest : List ℕ
+  pub parts : bytes ≡ begun ++ rest
+  pub left : rest ≢ []
+  pub written : Appends out now begun
+
+-- by whether a failed write cut them off: all of the bytes are written, or a beginning
+abbrev pub IsWrittenOrCut : Bool → List ℕ → Option (List ℕ) → Option (List ℕ) → Type 0
+IsWrittenOrCut false bytes out now = Appends out now bytes
+IsWrittenOrCut true bytes out now = IsPartlyWritten bytes out now
+
+-- ==== The status with which the program ends, and the word that it prints
 -- the exit status: 2 for the arguments, 3 for the input, 4 for the rest
 abbrev pub failure_status : ErrorCode → ℕ
 failure_status failure.Value = 2
@@ -97,8 +109,7 @@ pub record Ending : Type 0 where
 
 -- the end of a command, by its exit report and by what the error writer held before and holds now
 abbrev pub ending : {E : Type 0} → ExitReport E → Option (List ℕ) → Option (List ℕ) → Ending
-ending exit before now =
-    record { status = exit.status; cut = is_some exit.cut; before = before; now = now }
+ending exit before now = record { status = exit.status; cut = is_some exit.cut; before = before; now = now }
 
 -- after a failure the line with its error code is written, or, if `cut`, a beginning of it; else nothing is.
 -- `out` is what the writer held before
@@ -175,3 +186,89 @@ failure_at (Err serve.OutOfMemory) = Some failure.Memory
 failure_at (Err serve.Read) = None
 failure_at (Err (serve.Write sent)) = None
 failure_at (Err serve.CutShort) = None
+
+-- ==== What `token` and `cover` print
+-- the line that reports a cell: a leaf's token is its id in 16 hex digits
+unfoldable pub cell_line : ℕ → List ℕ
+cell_line id =
+    token_text id ++ (codes " face " ++ (decimal (face_of id) ++ (codes " level " ++ (decimal (level_of id)
+    ++ (codes " leaves " ++ (token_text (first_leaf_id id) ++ (codes " " ++ (token_text (last_leaf_id id)
+    ++ codes "\n"))))))))
+
+-- the result of `token`: the line of the cell, or the failure that the text is no token
+abbrev pub reported_of_token : Result ℕ TokenFault → Result (List ℕ) ErrorCode
+reported_of_token (Ok id) = Ok (cell_line id)
+reported_of_token (Err fault) = Err (failure.Token fault)
+
+-- the numbers of a rectangle, as the arguments of `cover` give them
+abbrev pub rect_parts : CoverArgs → RectParts
+rect_parts words = record {
+  face = words.face;
+  i_min = words.i_min;
+  i_max = words.i_max;
+  j_min = words.j_min;
+  j_max = words.j_max;
+  level = words.level;
+}
+
+-- the token of each cell on its own line
+abbrev pub token_lines : List ℕ → List ℕ
+token_lines [] = []
+token_lines (id ∷ ids) = token_text id ++ (codes "\n" ++ token_lines ids)
+
+-- the same, then the line with the numbers of cells and of ranges
+unfoldable pub cover_lines : List ℕ → ℕ → List ℕ
+cover_lines ids ranges =
+    token_lines ids
+    ++ (decimal (length ids) ++ (codes " cells, " ++ (decimal ranges ++ codes " ranges\n")))
+
+-- the lines of the canonical cover of a set of leaves, if it has few enough cells
+pub record IsCoverText (set : ℕ → Bool) (text : List ℕ) : Type 0 where
+  pub ids : List ℕ
+  pub canonical : IsCanonical set ids
+  pub few : length ids ≤ max_cover
+  pub spans : List Span
+  pub ranges : IsRanges set spans
+  pub lines : text ≡ cover_lines ids (length spans)
+
+-- the canonical cover of a set of leaves has too many cells
+abbrev pub IsLong : (ℕ → Bool) → Type 0
+IsLong set = (ids : List ℕ) × (IsCanonical set ids × (max_cover < length ids))
+
+-- the result of `cover`, where `picture` says whether a picture was asked for: the lines of the cover, a
+-- picture (any text: the contracts of cell_picture say which), or the failure if there is no cover
+abbrev pub IsRectReported : Bool → Result RectParts RectFault → Result (List ℕ) ErrorCode → Type 0
+IsRectReported picture (Err fault) reported = reported ≡ Err (failure.Rect fault)
+IsRectReported picture (Ok rect) (Err f) = (f ≡ failure.TooManyCells) × IsLong (rect_leaves rect)
+IsRectReported true (Ok rect) (Ok text) = ⊤
+IsRectReported false (Ok rect) (Ok text) = IsCoverText (rect_leaves rect) text
+
+-- the command line is `token` or `cover`
+abbrev pub IsTokenOrCover : Line → Type 0
+IsTokenOrCover (line.Token token) = ⊤
+IsTokenOrCover (line.Cover words) = ⊤
+IsTokenOrCover _ = ⊥
+
+-- the result of `token` or `cover`
+abbrev pub IsTextOf : Line → Result (List ℕ) ErrorCode → Type 0
+IsTextOf (line.Token token) reported = reported ≡ reported_of_token (read_token (string_bytes token))
+IsTextOf (line.Cover words) reported
+    = IsRectReported words.is_picture (rect_or_fault (rect_parts words)) reported
+IsTextOf _ reported = ⊥
+
+-- memory ran out and nothing is printed, or a write failed after a beginning of the result was printed
+abbrev pub IsPrintingGivenUp : Line → ErrorCode → Option (List ℕ) → Option (List ℕ) → Type 0
+IsPrintingGivenUp line f out now = ((f ≡ failure.Memory) × (now ≡ out))
+    ⊎ ((f ≡ failure.Write) × ((text : List ℕ) × IsTextOf line (Ok text) × IsPartlyWritten text out now))
+
+-- what is printed: the result; nothing, if the result is a failure; or what was printed until memory ran out
+-- or a write failed
+abbrev pub IsShown : Line → Result ⊤ ErrorCode → Option (List ℕ) → Option (List ℕ) → Type 0
+IsShown line (Ok done) out now = (text : List ℕ) × IsTextOf line (Ok text) × Appends out now text
+IsShown line (Err f) out now = IsPrintingGivenUp line f out now ⊎ (IsTextOf line (Err f) × (now ≡ out))
+
+-- what `token` or `cover` prints, and how it ends
+pub record IsPrinted (line : Line) (end : Ending) (out now : Option (List ℕ)) : Type 0 where
+  pub done : Result ⊤ ErrorCode
+  pub ends : EndsWith done end
+  pub shown : IsShown line done out now

@@ -1,44 +1,48 @@
--- Grammar: the words of each line as rules of `clap`, and what each field of a line is by the values that its
--- arguments have.
-use Rattle.std.specs.Prelude.{◌≡◌, ◌≢◌, ◌==◌, ◌+◌, ⊤, Result, Ok, Err, ℕ, ℤ, Bool, pos, true, false, List, [], ◌∷◌, map, take, drop}
-use Rattle.std.specs.Prelude.{codes, string_bytes, if◌then◌else◌}
-use Rattle.std.specs.Prelude.{IfSome, Option, Some, None, option_map, option_and_then, unwrap_or, fold}
-use Rattle.std.specs.Int.{IsInRange}
-use Rattle.std.specs.List.{position}
-use Rattle.std.specs.Option.{IsSomeAnd, option_map_or}
-use Rattle.std.specs.Str.{bytes_eq}
-use Rattle.std.specs.Str.Parse.{IsNumeral, digits_value, signed_digits_value, without_leading_plus}
-use Rattle.std.specs.Str.Parse.{without_leading_sign}
-use Rattle.clap.specs.Simple.{App, Shape, new_rule, new_shape, subcommand_of, with_subcommand}
-use Rattle.clap.specs.Takes.{takes}
-use Rattle.clap.specs.Values.{kind_of}
-use Rattle.clap.specs.Walk.{Row, Rule, Text, all_of, first_of, one_of}
+-- The words of each command line as rules of `clap`, and what each field is.
+use Rattle.std.specs.Prelude.{◌≡◌, ◌==◌, ◌&&◌, ℕ, Bool, List, [], map, length, Option, Some, None, nat_le, nat_lt, if◌then◌else◌, Ok, ◌≢◌, ◌+◌, ⊤, Result, Err, ℤ, pos, true, false, ◌∷◌, take, drop, codes, string_bytes, IfSome, option_map, option_and_then, unwrap_or, fold}
+use Rattle.std.specs.{Char.is_ascii_digit, List.list_all, List.slice_split, List.position, Str.Parse.digits_value, Str.Parse.IsNumeral, Str.Parse.signed_digits_value, Str.Parse.without_leading_plus, Str.Parse.without_leading_sign, Int.IsInRange, Option.IsSomeAnd, Option.option_map_or, Str.bytes_eq}
+use Rattle.clap.specs.{Simple.App, Simple.Shape, Simple.new_rule, Simple.new_shape, Simple.subcommand_of, Simple.with_subcommand, Takes.takes, Values.kind_of, Walk.Row, Walk.Rule, Walk.Text, Walk.all_of, Walk.first_of, Walk.one_of}
 use Rattle.clap.specs.declared.error.kind.ErrorKind.TheVariants as kind
-use Rattle.clap.specs.declared.builder.action.ArgAction.TheVariants.{Append, SetTrue}
-use Rattle.clap.specs.declared.builder.value_parser.ValueParser.TheVariants.{Signed}
-use Rattle.desk_rules.specs.Limits.{max_spans, max_total_cells}
-use Rattle.desk_rules.specs.Name.{is_operator_name}
-use Rattle.desk_rules.specs.Terms.{no_terms}
-use Rattle.desk_rules.specs.declared.terms.Terms.{Terms}
+use Rattle.clap.specs.declared.{builder.action.ArgAction.TheVariants.Append, builder.action.ArgAction.TheVariants.SetTrue, builder.value_parser.ValueParser.TheVariants.Signed}
 use Rattle.volume4d.specs.VolumeLimits.{max_second}
-use Rattle.desk_cli.specs.Equal.{ArePermittedBy, priority_in}
-use Rattle.desk_cli.specs.Lines.{IsLine, file_of, max_connections, max_port}
-use Rattle.desk_cli.specs.Lines.{min_connections, min_limit, min_port, named_file}
-use Rattle.desk_cli.specs.declared.line.CopyArgs.{CopyArgs as CopyWords}
-use Rattle.desk_cli.specs.declared.line.CoverArgs.{CoverArgs}
-use Rattle.desk_cli.specs.declared.line.DeskArgs.{DeskArgs}
-use Rattle.desk_cli.specs.declared.line.EnrolArgs.{EnrolArgs}
-use Rattle.desk_cli.specs.declared.line.Enrolment.{Enrolment}
-use Rattle.desk_cli.specs.declared.line.Line.{Line}
+use Rattle.desk_rules.specs.{Limits.max_priority, Limits.permitted_in, Limits.max_spans, Limits.max_total_cells, Limits.is_operator_name, Outcome.no_terms}
+use Rattle.desk_rules.specs.declared.terms.Terms.{Terms}
+use Rattle.desk_cli.specs.Lines.{IsLine, file_of, max_connections, max_port, min_connections, min_limit, min_port, named_file}
+use Rattle.desk_cli.specs.declared.line.{CopyArgs.CopyArgs as CopyWords, CoverArgs.CoverArgs, DeskArgs.DeskArgs, EnrolArgs.EnrolArgs, Enrolment.Enrolment, Line.Line, PlayArgs.PlayArgs, ReplayArgs.ReplayArgs as ReplayWords, ServeArgs.ServeArgs, WordsFault.WordsFault}
 use Rattle.desk_cli.specs.declared.line.Line.TheVariants as line
-use Rattle.desk_cli.specs.declared.line.PlayArgs.{PlayArgs}
-use Rattle.desk_cli.specs.declared.line.ReplayArgs.{ReplayArgs as ReplayWords}
-use Rattle.desk_cli.specs.declared.line.ServeArgs.{ServeArgs}
-use Rattle.desk_cli.specs.declared.line.WordsFault.{WordsFault}
 use Rattle.desk_cli.specs.declared.line.WordsFault.TheVariants as fault
 
--- ---- the words
+-- the greatest number of digits of a priority
+abbrev pub max_priority_digits : ℕ
+max_priority_digits = 4
 
+-- whether a text is 1 to 4 decimal digits
+unfoldable pub is_short_number : List ℕ → Bool
+is_short_number text =
+    nat_lt 0 (length text) && (nat_le (length text) max_priority_digits && list_all is_ascii_digit text)
+
+-- the priority that a text of 1 to 4 digits is; None for other texts and above 1,000
+unfoldable pub priority_in : List ℕ → Option ℕ
+priority_in text =
+    if is_short_number text && nat_le (digits_value 10 text) max_priority then Some (digits_value 10 text)
+    else None
+
+-- a byte is `,`
+abbrev pub is_comma : ℕ → Bool
+is_comma byte = byte == 44
+
+-- the permitted priorities are those between the commas of a word, and they may be permitted together
+pub record ArePermittedIn (word permitted : List ℕ) : Type 0 where
+  pub numbers : map Some permitted ≡ map priority_in (slice_split is_comma word)
+  pub fit : permitted_in permitted ≡ Ok permitted
+
+-- the same, if the option is given; without it no priority is permitted
+abbrev pub ArePermittedBy : Option (List ℕ) → List ℕ → Type 0
+ArePermittedBy None permitted = permitted ≡ []
+ArePermittedBy (Some word) permitted = ArePermittedIn word permitted
+
+-- ==== Each line's words as rules of `clap`, and what each of its fields is by the values of its arguments
+-- ---- the words
 -- a value at its place, which may be left out
 abbrev pub value : Text → Rule
 value id = record (new_rule id) { value_names = 1 }
@@ -143,7 +147,6 @@ abbrev pub program : App
 program = with_lines line_shapes
 
 -- ---- the values
-
 -- a text is the decimal number n, perhaps with a plus sign
 abbrev pub WritesNumber : ℕ → Text → Type 0
 WritesNumber n text =
@@ -218,7 +221,6 @@ enrolment_given rows =
     (first_of (codes "NAME") rows)
 
 -- ---- the lines
-
 -- the desk of `play` or of `serve`, with this file of enrolments
 pub record IsDeskGiven (rows : List Row) (file : Option Text) (desk : DeskArgs) : Type 0 where
   pub database : file_of desk.database ≡ file_given rows
@@ -303,7 +305,6 @@ pub record IsGiven (words : List Text) (it : Line) : Type 0 where
   pub values : HasGiven rows it
 
 -- ---- why words are no line
-
 -- the result is a `Value` fault only if no value satisfies `Is`; it may also be OutOfMemory, never `Words`
 abbrev pub RefusesOnlyWithout : {A B : Type 0} → (B → Type 0) → Result A WordsFault → Type 0
 RefusesOnlyWithout Is (Ok value) = ⊤

@@ -1,22 +1,10 @@
--- Lines: what holds of a command line that was read.
-use Rattle.std.specs.Prelude.{ℕ, pos, List, All, ⊤, ◌≤◌, Option, Some, None, IfSome, if◌then◌else◌, bytes_eq, codes}
-use Rattle.std.specs.Prelude.{string_bytes}
+-- What holds of a command line that was read.
+use Rattle.std.specs.Prelude.{ℕ, pos, List, All, ⊤, ◌≤◌, Option, Some, None, IfSome, if◌then◌else◌, bytes_eq, codes, string_bytes, ◌≡◌, option_map}
 use Rattle.std.specs.Int.{IsInRange}
 use Rattle.desk_rules.specs.Limits.{max_priority}
-use Rattle.io_ends.specs.Moments.{IsMoment}
-use Rattle.desk_cli.specs.declared.line.DeskCommand.{DeskCommand}
+use Rattle.io_ends.specs.Writing.{IsMoment}
+use Rattle.desk_cli.specs.declared.line.{DeskCommand.DeskCommand, CoverArgs.CoverArgs, Database.Database, Database.TheVariants.InMemory, Database.TheVariants.File, DeskArgs.DeskArgs, EnrolArgs.EnrolArgs, Enrolment.Enrolment, Line.Line, Line.TheVariants.Cover, Line.TheVariants.Play, Line.TheVariants.Serve, Line.TheVariants.Enrol, Line.TheVariants.Replay, PlayArgs.PlayArgs, ReplayArgs.ReplayArgs as ReplayWords, ServeArgs.ServeArgs}
 use Rattle.desk_cli.specs.declared.line.DeskCommand.TheVariants as action
-use Rattle.desk_cli.specs.declared.line.CoverArgs.{CoverArgs}
-use Rattle.desk_cli.specs.declared.line.Database.{Database}
-use Rattle.desk_cli.specs.declared.line.Database.TheVariants.{InMemory, File}
-use Rattle.desk_cli.specs.declared.line.DeskArgs.{DeskArgs}
-use Rattle.desk_cli.specs.declared.line.EnrolArgs.{EnrolArgs}
-use Rattle.desk_cli.specs.declared.line.Enrolment.{Enrolment}
-use Rattle.desk_cli.specs.declared.line.Line.{Line}
-use Rattle.desk_cli.specs.declared.line.Line.TheVariants.{Cover, Play, Serve, Enrol, Replay}
-use Rattle.desk_cli.specs.declared.line.PlayArgs.{PlayArgs}
-use Rattle.desk_cli.specs.declared.line.ReplayArgs.{ReplayArgs as ReplayWords}
-use Rattle.desk_cli.specs.declared.line.ServeArgs.{ServeArgs}
 
 abbrev pub min_port : ℕ
 min_port = 1
@@ -106,3 +94,11 @@ abbrev pub desk_of : DeskCommand → DeskArgs
 desk_of (action.Play play) = play.now.desk
 desk_of (action.Serve serve) = serve.now.desk
 desk_of (action.Enrol enrol) = enrol.now.desk
+
+-- ==== When the arguments of two desks are the same
+pub record SameDesk (a b : DeskArgs) : Type 0 where
+  pub database : file_of b.database ≡ file_of a.database
+  pub terms : b.terms ≡ a.terms
+  pub enrolments : b.enrolments.items ≡ a.enrolments.items
+  pub operators : option_map string_bytes b.operators ≡ option_map string_bytes a.operators
+  pub folder : option_map string_bytes b.folder ≡ option_map string_bytes a.folder

@@ -1,11 +1,9 @@
 //! The commands and their arguments as tables, from which `clap` makes the help and parses a command line.
 
 ghost use Rattle.std.specs.Prelude.{◌≡◌, IfOk, map};
-ghost use Rattle.clap.specs.Simple.{app_of, shape_of};
-ghost use Rattle.clap.specs.Walk.{rule_of};
-ghost use Rattle.desk_cli.specs.Forms.{bare_rule, rule_of_row, shape_of_form};
+ghost use Rattle.clap.specs.{Simple.app_of, Simple.shape_of, Walk.rule_of};
+ghost use Rattle.desk_cli.specs.{Malformed.bare_rule, Malformed.rule_of_row, Malformed.shape_of_form, Grammar.line_shape};
 ghost use Rattle.desk_cli.specs.Grammar as spec;
-ghost use Rattle.desk_cli.specs.Grammar.{line_shape};
 
 use crate::line::MAX_CONNECTIONS;
 use clap::builder::ValueParser;

@@ -1,12 +1,10 @@
 //! Priorities on the command line, and the option `--equal`, a list of them.
 
 ghost use Rattle.std.specs.Prelude.{◌≡◌, ◌≤◌, ℕ, List, IfOk, IfSome, Some, map, option_map};
-ghost use Rattle.std.specs.Char.{is_ascii_digit};
-ghost use Rattle.std.specs.List.{list_all, slice_split};
+ghost use Rattle.std.specs.{Char.is_ascii_digit, List.list_all, List.slice_split};
 ghost use Rattle.desk_rules.specs.Limits.{max_priority};
-ghost use Rattle.desk_cli.specs.Equal as spec;
-ghost use Rattle.desk_cli.specs.Grammar.{RefusesOnlyWithout};
-ghost use Rattle.desk_cli.specs.Equal.{ArePermittedBy, ArePermittedIn, is_comma, priority_in};
+ghost use Rattle.desk_cli.specs.Grammar as spec;
+ghost use Rattle.desk_cli.specs.Grammar.{RefusesOnlyWithout, ArePermittedBy, ArePermittedIn, is_comma, priority_in};
 
 use crate::line::WordsFault;
 use desk_rules::decide::MAX_PRIORITY;
@@ -71,7 +69,7 @@ fn parse_priorities(alloc: Global, parts: &[&str]) -> Result<Vec<u32>, WordsFaul
 }
 
 /// Parses a priority or a ceiling: a decimal number of 1 to 4 digits, at most 1,000. None for other texts.
-#[tactic(auto, unfolding(crate::specs::Equal::priority_in))]
+#[tactic(auto, unfolding(crate::specs::Grammar::priority_in))]
 pub fn parse_priority(text: &str) -> Option<u32>
     ensures parsed { result ≡ priority_in text.now }
     ensures in_range { IfSome result (λ priority. priority ≤ max_priority) }
@@ -86,7 +84,7 @@ pub fn parse_priority(text: &str) -> Option<u32>
 }
 
 // Whether `text` is 1 to 4 decimal digits.
-#[tactic(auto, unfolding(crate::specs::Equal::is_short_number))]
+#[tactic(auto, unfolding(crate::specs::Grammar::is_short_number))]
 fn is_short_number(text: &str) -> bool
     ensures { result ≡ spec.is_short_number text.now }
 {

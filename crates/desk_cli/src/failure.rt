@@ -3,7 +3,7 @@
 ghost use Rattle.std.specs.Prelude.{◌≡◌, IfErr, None, OnOk, is_some};
 ghost use Rattle.std.specs.Io.KnownBytes.{Appends};
 ghost use Rattle.desk_cli.specs.Exits as spec;
-ghost use Rattle.desk_cli.specs.Written.{IsPartlyWritten, IsWrittenOrCut};
+ghost use Rattle.desk_cli.specs.Exits.{IsPartlyWritten, IsWrittenOrCut};
 ghost use Rattle.desk_cli.specs.declared.failure.ErrorCode.TheVariants as failure;
 
 use desk_run::DeskFault;

@@ -1,28 +1,15 @@
 //! The command line of the program.
 
-ghost use Rattle.std.specs.Prelude.{◌≡◌, ◌≤◌, ◌<◌, ◌^◌, ◌↔◌, ℕ, IsTrue, Option, ℤ, pos, List, IfErr, IfOk, IfSome, None, Some, map, option_map};
-ghost use Rattle.std.specs.Prelude.{codes, string_bytes};
+ghost use Rattle.std.specs.Prelude.{◌≡◌, ◌≤◌, ◌<◌, ◌^◌, ◌↔◌, ℕ, IsTrue, Option, ℤ, pos, List, IfErr, IfOk, IfSome, None, Some, map, option_map, codes, string_bytes};
 ghost use Rattle.std.specs.Int.{IsInRange};
 ghost use mir.Syntax.{w64};
 ghost use mir.Val.{SFits};
-ghost use Rattle.clap.specs.Matches.{found_of};
-ghost use Rattle.clap.specs.Simple.{subcommand_of, subcommand_rows_of};
-ghost use Rattle.clap.specs.Walk.{first_of, rows_of};
+ghost use Rattle.clap.specs.{Matches.found_of, Simple.subcommand_of, Simple.subcommand_rows_of, Walk.first_of, Walk.rows_of};
 ghost use Rattle.desk_rules.specs.Limits.{max_priority};
-ghost use Rattle.io_ends.specs.Moments.{IsMoment};
-ghost use Rattle.desk_cli.specs.Copies.{SameDesk};
-ghost use Rattle.desk_cli.specs.Equal.{ArePermittedBy};
+ghost use Rattle.io_ends.specs.Writing.{IsMoment};
+ghost use Rattle.desk_cli.specs.Lines.{SameDesk, AreEnrolments, IsCover, IsEnrol, IsMomentIfGiven, IsLine, IsPlay, IsReplay, IsServe, desk_of, file_of, max_connections, max_port, min_connections, min_limit, min_port, named_file};
+ghost use Rattle.desk_cli.specs.Grammar.{ArePermittedBy, AreEnrolmentsGiven, IsCellLimitGiven, IsSpanLimitGiven, AreTermsOf, AreWordsRefused, HasGiven, IsBareDeskGiven, IsCopyGiven, IsCoverGiven, IsDeskGiven, IsEnrolGiven, IsGiven, IsLineOf, IsLimitGiven, IsNumberGiven, IsNumberOrNone, IsPlayGiven, IsReplayGiven, IsIntegerGiven, IsServeGiven, IsTextGiven, IsRefusedByClap, RefusesOnlyWithout, enrolment_given, enrolment_in, file_given, name_of, program};
 ghost use Rattle.desk_cli.specs.Grammar as spec;
-ghost use Rattle.desk_cli.specs.Grammar.{AreEnrolmentsGiven, IsCellLimitGiven, IsSpanLimitGiven, AreTermsOf};
-ghost use Rattle.desk_cli.specs.Grammar.{AreWordsRefused, HasGiven};
-ghost use Rattle.desk_cli.specs.Grammar.{IsBareDeskGiven, IsCopyGiven, IsCoverGiven, IsDeskGiven};
-ghost use Rattle.desk_cli.specs.Grammar.{IsEnrolGiven, IsGiven, IsLineOf, IsLimitGiven, IsNumberGiven};
-ghost use Rattle.desk_cli.specs.Grammar.{IsNumberOrNone, IsPlayGiven, IsReplayGiven, IsIntegerGiven};
-ghost use Rattle.desk_cli.specs.Grammar.{IsServeGiven, IsTextGiven, IsRefusedByClap};
-ghost use Rattle.desk_cli.specs.Grammar.{RefusesOnlyWithout, enrolment_given, enrolment_in, file_given, name_of, program};
-ghost use Rattle.desk_cli.specs.Lines.{AreEnrolments, IsCover, IsEnrol, IsMomentIfGiven, IsLine, IsPlay};
-ghost use Rattle.desk_cli.specs.Lines.{IsReplay, IsServe, desk_of, file_of, max_connections, max_port};
-ghost use Rattle.desk_cli.specs.Lines.{min_connections, min_limit, min_port, named_file};
 ghost use Rattle.desk_cli.specs.declared.line.CoverArgs.{CoverArgs};
 ghost use Rattle.desk_cli.specs.declared.line.WordsFault.TheVariants as fault;
 

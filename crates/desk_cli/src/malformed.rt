@@ -1,13 +1,10 @@
 //! Which argument is malformed: found for the error message after the command line was refused.
 
 ghost use Rattle.std.specs.Prelude.{◌≡◌, [], codes, IfSome, Some, is_none, is_some, map, not, option_map, string_bytes, unwrap_or};
-ghost use Rattle.clap.specs.Matches.{found_of};
-ghost use Rattle.clap.specs.Walk.{all_of, rows_of};
-ghost use Rattle.desk_rules.specs.Name.{is_operator_name};
-ghost use Rattle.desk_cli.specs.Equal.{priority_in};
-ghost use Rattle.desk_cli.specs.Grammar.{enrolment_by, enrolment_in};
-ghost use Rattle.desk_cli.specs.Malformed.{IsMalformedAtDesk, IsMalformedListOrEnrolment, IsMalformedOperator, IsFirstMalformed};
-ghost use Rattle.desk_cli.specs.Malformed.{IsMalformed, first_malformed_enrolment};
+ghost use Rattle.clap.specs.{Matches.found_of, Walk.all_of, Walk.rows_of};
+ghost use Rattle.desk_rules.specs.Limits.{is_operator_name};
+ghost use Rattle.desk_cli.specs.Grammar.{priority_in, enrolment_by, enrolment_in};
+ghost use Rattle.desk_cli.specs.Malformed.{IsMalformedAtDesk, IsMalformedListOrEnrolment, IsMalformedOperator, IsFirstMalformed, IsMalformed, first_malformed_enrolment};
 
 use crate::equal::{parse_permitted_option, parse_priority};
 use crate::line::{WordsFault, argument, match_words};

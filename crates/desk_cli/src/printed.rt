@@ -2,16 +2,11 @@
 
 ghost use Rattle.std.specs.Prelude.{◌≡◌, ◌⊎◌, List, IfOk, IfErr, OnOk, Ok, Err, length, string_bytes};
 ghost use Rattle.std.specs.Io.KnownBytes.{Appends};
-ghost use Rattle.s2_cellid.specs.Token.{read_token};
-ghost use Rattle.s2_cover.specs.Leaves.{leaves_of};
-ghost use Rattle.s2_cover.specs.Ranges.{IsRanges};
-ghost use Rattle.s2_cover.specs.Rectangles.{rect_or_fault};
+ghost use Rattle.s2_cellid.specs.Cell.{read_token};
+ghost use Rattle.s2_cover.specs.Covers.{leaves_of, IsRanges, rect_or_fault};
 ghost use Rattle.s2_cover.specs.declared.spans.Span.{Span};
-ghost use Rattle.desk_cli.specs.Exits.{ending};
-ghost use Rattle.desk_cli.specs.Printing as spec;
-ghost use Rattle.desk_cli.specs.Printing.{IsCoverText, IsPrinted, IsTokenOrCover, IsRectReported, IsShown, IsTextOf};
-ghost use Rattle.desk_cli.specs.Printing.{rect_parts, reported_of_token};
-ghost use Rattle.desk_cli.specs.Written.{IsPartlyWritten};
+ghost use Rattle.desk_cli.specs.Exits.{ending, IsCoverText, IsPrinted, IsTokenOrCover, IsRectReported, IsShown, IsTextOf, rect_parts, reported_of_token, IsPartlyWritten};
+ghost use Rattle.desk_cli.specs.Exits as spec;
 ghost use Rattle.desk_cli.specs.declared.failure.ErrorCode.TheVariants.{Memory, Write};
 
 use crate::failure::{ErrorCode, ExitReport, report_exit};
@@ -83,7 +78,7 @@ fn token_text(alloc: Global, token: &str) -> Result<String, ErrorCode>
 }
 
 // The line that describes a cell: its token, its face, its level, and the tokens of its first and last leaf.
-#[tactic(auto, unfolding(crate::specs::Printing::cell_line))]
+#[tactic(auto, unfolding(crate::specs::Exits::cell_line))]
 fn cell_line(alloc: Global, cell: &CellId) -> Result<String, AllocError>
     ensures { IfOk result (λ text. string_bytes text ≡ spec.cell_line cell.now) }
 {
@@ -119,7 +114,7 @@ fn cover_text(alloc: Global, cover_args: &CoverArgs) -> Result<String, ErrorCode
 }
 
 // The token of each cell of a cover on its own line, then one line with the numbers of cells and of ranges.
-#[tactic(auto, unfolding(crate::specs::Printing::cover_lines))]
+#[tactic(auto, unfolding(crate::specs::Exits::cover_lines))]
 fn cells_text(alloc: Global, cover: &Cover) -> Result<String, AllocError>
     ensures { IfOk result (λ text. (spans : List Span) × IsRanges (leaves_of cover.now.ids) spans
         × (string_bytes text ≡ spec.cover_lines cover.now.ids (length spans))) }

@@ -3,7 +3,7 @@
 ghost use Rattle.std.specs.Prelude.{◌≡◌, ◌≤◌, ◌++◌, ◌∷◌, [], IfOk, IfSome, map};
 ghost use Rattle.desk_rules.specs.Limits.{max_priority};
 ghost use Rattle.desk_cli.specs.Lines.{AreEnrolments};
-ghost use Rattle.desk_cli.specs.Register as spec;
+ghost use Rattle.desk_cli.specs.Malformed as spec;
 
 use crate::line::{Enrolment, make_enrolment};
 use std::alloc::{AllocError, Global};
@@ -42,7 +42,7 @@ fn add_enrolment(enrolments: &mut Vec<Enrolment>, line: &str) -> Result<(), Allo
 }
 
 /// Parses a line `NAME CEILING`, split at its first space. None if it is malformed.
-#[tactic(auto, unfolding(crate::specs::Register::parse_enrolment_line))]
+#[tactic(auto, unfolding(crate::specs::Malformed::parse_enrolment_line))]
 pub fn parse_enrolment_line(line: &str) -> Option<Enrolment>
     ensures value { result ≡ spec.parse_enrolment_line line.now }
     ensures in_range { IfSome result (λ e. e.ceiling ≤ max_priority) }

@@ -1,8 +1,8 @@
 //! Error messages with their place: `uss_desk: PLACE: TEXT`.
 
 ghost use Rattle.std.specs.Prelude.{◌≡◌, IfOk, map, string_bytes};
-ghost use Rattle.desk_cli.specs.Reporting as spec;
-ghost use Rattle.desk_cli.specs.Reporting.{IsMalformedReported, IsPrintedPart, IsReported};
+ghost use Rattle.desk_cli.specs.Malformed as spec;
+ghost use Rattle.desk_cli.specs.Malformed.{IsMalformedReported, IsPrintedPart, IsReported};
 
 use crate::malformed::find_malformed_argument;
 use io_ends::write_whole;
@@ -29,7 +29,7 @@ fn write_line<E: Write>(line: &str, errors: &mut E)
 }
 
 // The line `uss_desk: PLACE: TEXT`, with its line feed.
-#[tactic(auto, unfolding(crate::specs::Reporting::report_line))]
+#[tactic(auto, unfolding(crate::specs::Malformed::report_line))]
 fn report_line(alloc: Global, place: &str, text: &str) -> Result<String, AllocError>
     ensures { IfOk result (λ line. string_bytes line ≡ spec.report_line place.now text.now) }
 {

@@ -5,24 +5,18 @@ use Rattle.std.specs.Prelude.{cond, is_some, nat_le, nat_lt, ◌==◌}
 use Rattle.std.specs.List.{filter}
 use Rattle.std.proofs.lemmas.Bool.{and_parts}
 use Rattle.std.proofs.lemmas.Bool.Decides.{nat_tests}
-use Rattle.volume4d.specs.Level.{greater}
-use Rattle.volume4d.specs.Meeting.{Spot}
-use Rattle.volume4d.specs.Point.{Point}
-use Rattle.volume4d.specs.Volume.{Block, area_has}
+use Rattle.volume4d.specs.Slab.{greater}
+use Rattle.volume4d.specs.Sweep.{Spot}
+use Rattle.volume4d.specs.Volume.{Point, Block, area_has}
 use Rattle.desk_rules.specs.declared.call.Call.TheVariants as call
 use Rattle.desk_rules.specs.declared.plan.PutCall.{PutCall}
 use Rattle.desk_rules.specs.Conflict.{IsConflict, at_least, conflict, is_blocked}
-use Rattle.desk_rules.specs.Outcome.{outcome_under}
-use Rattle.desk_rules.specs.Permission.{blocks, is_permitted, least_blocking}
-use Rattle.desk_rules.specs.Plan.{top_priority}
-use Rattle.desk_rules.specs.Replies.{ReplyParts}
-use Rattle.desk_rules.specs.States.{states_of}
+use Rattle.desk_rules.specs.Outcome.{outcome_under, top_priority, ReplyParts, states_of}
+use Rattle.desk_rules.specs.Limits.{blocks, is_permitted, least_blocking}
 use Rattle.desk_store.specs.World.{has_id, held_at, own, stored_of}
 use Rattle.desk_store.proofs.lemmas.Rival.{at_least_greater}
-use Rattle.desk_run.specs.DeskWorld.{DeskWorld, Side, held_in, side}
-use Rattle.desk_run.specs.Sides.{OwnAlike}
-use Rattle.desk_run.specs.Verdicts.{Reported, enrolled_ruling, put_outcome, put_ruling, replied, ruling_under}
-use Rattle.desk_run.specs.Verdicts.{standing_of, reported_to, verdict}
+use Rattle.desk_run.specs.Verdicts.{DeskWorld, Side, held_in, side, Reported, enrolled_ruling, put_outcome, put_ruling, replied, ruling_under, standing_of, reported_to, verdict}
+use Rattle.desk_run.specs.Calls.{OwnAlike}
 use Rattle.desk_examples.specs.Desks.{BlockAlike}
 use Rattle.desk_examples.proofs.DeskLemmas.{said_of}
 

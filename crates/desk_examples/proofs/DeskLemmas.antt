@@ -8,8 +8,8 @@ use Rattle.std.specs.Ordering.{is_eq, match_ordering}
 use Rattle.std.specs.List.{find}
 use Rattle.std.specs.Cmp.Lexicographic.{nat_list_cmp_total}
 use Rattle.std.proofs.lemmas.Cmp.{tied_itself}
-use Rattle.volume4d.specs.Point.{Point}
-use Rattle.volume4d.specs.Meeting.{Spot}
+use Rattle.volume4d.specs.Volume.{Point}
+use Rattle.volume4d.specs.Sweep.{Spot}
 use Rattle.desk_rules.specs.declared.call.Call.{Call}
 use Rattle.desk_rules.specs.declared.call.Call.TheVariants as call
 use Rattle.desk_rules.specs.declared.decide.Effect.TheVariants as effect
@@ -25,18 +25,13 @@ use Rattle.desk_rules.specs.declared.words.PlanResult.TheVariants as result
 use Rattle.desk_rules.specs.declared.words.PlanStatus.TheVariants as status
 use Rattle.desk_rules.specs.declared.words.Style.{Style}
 use Rattle.desk_rules.specs.declared.words.Style.TheVariants as style
-use Rattle.desk_rules.specs.Outcome.{outcome_under, refused_result, step_effect, step_status, styled_effect, verdict_from}
-use Rattle.desk_rules.specs.States.{step_from}
-use Rattle.desk_rules.specs.Replies as said
-use Rattle.desk_rules.specs.Replies.{ReplyParts}
+use Rattle.desk_rules.specs.Outcome.{outcome_under, refused_result, step_effect, step_status, styled_effect, verdict_from, step_from, ReplyParts}
+use Rattle.desk_rules.specs.Outcome as said
 use Rattle.desk_store.specs.Changes.{put_row}
 use Rattle.desk_store.specs.World.{Own, ceiling_of, has_id, own, stored_of, text_cmp}
 use Rattle.desk_run.specs.declared.fault.DeskFault.{DeskFault}
-use Rattle.desk_run.specs.DeskFrames.{fault_in}
-use Rattle.desk_run.specs.DeskWorld.{DeskWorld, held_in, side}
-use Rattle.desk_run.specs.Sides.{HoldAlike, OwnAlike}
-use Rattle.desk_run.specs.Verdicts.{Reported, enrolled_ruling, plans_left, put_outcome, replied, row_asked, ruling_under}
-use Rattle.desk_run.specs.Verdicts.{shown_plan, side_left, step, reported_to, verdict, world_with_plans}
+use Rattle.desk_run.specs.Calls.{fault_in, HoldAlike, OwnAlike}
+use Rattle.desk_run.specs.Verdicts.{DeskWorld, held_in, side, Reported, enrolled_ruling, plans_left, put_outcome, replied, row_asked, ruling_under, shown_plan, side_left, step, reported_to, verdict, world_with_plans}
 use Rattle.desk_run.proofs.lemmas.Side.{everywhere}
 use Rattle.desk_run.proofs.lemmas.Step.{own_stays}
 use Rattle.desk_examples.specs.Desks.{IsPlanListed, IsPlanned, rows_in}

@@ -1,15 +1,15 @@
 -- What the status of a line of `enrol` says.
 use Rattle.std.proofs.Common.{◌≡◌, ◌∙◌, ℕ, List, Option, inl, inr, sym}
 use Rattle.desk_store.specs.declared.store.PlanStore.{Ghosts}
-use Rattle.desk_store.specs.StoreFaults.{IsHonest}
-use Rattle.desk_run.specs.DeskWorld.{DeskWorld, Parts, enrolled, world_of}
-use Rattle.desk_wire.specs.Passage.{Course, Passage}
+use Rattle.desk_store.specs.Changes.{IsHonest}
+use Rattle.desk_run.specs.Verdicts.{DeskWorld, Parts, enrolled, world_of}
+use Rattle.desk_wire.specs.Streams.{Course, Passage}
 use Rattle.desk_cli.specs.declared.line.EnrolArgs.{EnrolArgs}
 use Rattle.desk_cli.specs.declared.line.Enrolment.{Enrolment}
 use Rattle.desk_cli.specs.declared.line.Line.TheVariants as line
 use Rattle.desk_cli.specs.Exits.{Ending, IsBrokenDown}
-use Rattle.desk_program.specs.CarryingOut.{EndsWithStatus}
-use Rattle.desk_program.specs.PlayLines.{IsEnrolled}
+use Rattle.desk_program.specs.Keeping.{EndsWithStatus}
+use Rattle.desk_program.specs.Enrolling.{IsEnrolled}
 
 -- with status 0 the operator is listed, since each failure has another status
 listed_at : (H : Type 0) (e : Enrolment) (end : Ending) (writes : Course (Option (List ℕ)))

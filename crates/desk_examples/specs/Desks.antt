@@ -1,20 +1,25 @@
 -- What an operator may rely on at a desk.
-use Rattle.std.specs.Prelude.{◌≡◌, ◌≢◌, ℕ, [], List, map, Option, Some, None, IsSomeAnd, true}
-use Rattle.volume4d.specs.Point.{Point}
-use Rattle.volume4d.specs.Volume.{area_has}
-use Rattle.desk_rules.specs.Conflict.{at_least}
-use Rattle.desk_rules.specs.Permission.{least_blocking}
-use Rattle.desk_rules.specs.declared.plan.PlanRow.{PlanRow}
-use Rattle.desk_rules.specs.declared.plan.PutCall.{PutCall}
-use Rattle.desk_rules.specs.declared.reply.PutReply.{PutReply}
+use Rattle.std.specs.Prelude.{ℕ, List, IsTrue, IsOkAnd, ◌≡◌, ◌≢◌, [], map, Option, Some, None, IsSomeAnd, true}
+use Rattle.s2_hilbert.specs.Grid.{GridLeaf, IsLeaf}
+use Rattle.s2_cellid.specs.Cell.{cell_has_leaf, read_token}
+use Rattle.volume4d.specs.Volume.{Point, area_has}
+use Rattle.desk_rules.specs.{Conflict.at_least, Limits.least_blocking, Outcome.ReplyParts}
+use Rattle.desk_rules.specs.declared.{plan.PlanRow.PlanRow, plan.PutCall.PutCall, reply.PutReply.PutReply}
 use Rattle.desk_rules.specs.declared.words.PlanResult.TheVariants as result
 use Rattle.desk_rules.specs.declared.words.PlanStatus.TheVariants as status
-use Rattle.desk_rules.specs.Replies as said
-use Rattle.desk_rules.specs.Replies.{ReplyParts}
+use Rattle.desk_rules.specs.Outcome as said
 use Rattle.desk_store.specs.World.{stored_of}
-use Rattle.desk_run.specs.DeskWorld.{DeskWorld, held_in}
-use Rattle.desk_run.specs.Verdicts.{row_asked}
+use Rattle.desk_run.specs.Verdicts.{DeskWorld, held_in, row_asked}
 
+-- the cell of a token has a leaf
+abbrev pub TokenHas : List ℕ → GridLeaf → Type 0
+TokenHas token leaf = IsOkAnd (read_token token) (λ id. IsTrue (cell_has_leaf id leaf))
+
+-- the cells of two tokens have a leaf in common
+abbrev pub TokensShare : List ℕ → List ℕ → Type 0
+TokensShare one other = (leaf : GridLeaf) × IsLeaf leaf × TokenHas one leaf × TokenHas other leaf
+
+-- ==== What an operator may rely on at a desk
 -- the reply to a request to plan
 abbrev pub given_in : ReplyParts → Option PutReply
 given_in said.ready = None

@@ -1,10 +1,9 @@
 //! Desks: enrolling, planning, listing.
 
 ghost use Rattle.std.specs.Prelude.{◌≡◌, ◌≢◌, IfOk};
-ghost use Rattle.desk_rules.specs.Replies.{said_in};
-ghost use Rattle.desk_store.specs.StoreFaults.{IsHonest};
-ghost use Rattle.desk_run.specs.DeskWorld.{enrolled, new_world, world_of};
-ghost use Rattle.desk_run.specs.Sides.{HoldAlike, OwnAlike};
+ghost use Rattle.desk_rules.specs.Outcome.{said_in};
+ghost use Rattle.desk_store.specs.Changes.{IsHonest};
+ghost use Rattle.desk_run.specs.{Verdicts.enrolled, Verdicts.new_world, Verdicts.world_of, Calls.HoldAlike, Calls.OwnAlike};
 ghost use Rattle.desk_examples.specs.Desks.{BlockAlike, IsPlanListed, IsPlanned};
 
 use desk_rules::laws::{conflict_is_found, one_conflict};

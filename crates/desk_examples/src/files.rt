@@ -4,8 +4,7 @@ ghost use Rattle.std.specs.Prelude.{◌≡◌, IfOk, Bool, false, length};
 ghost use Rattle.sqlite_wal.specs.Reads.{AreClean};
 ghost use Rattle.sqlite.specs.Closing.{IsCopied};
 ghost use Rattle.desk_store.specs.World.{World};
-ghost use Rattle.table_load.specs.HeldContent.{ShowsContent};
-ghost use Rattle.table_load.specs.Files.{OpensIn, no_files};
+ghost use Rattle.table_load.specs.{Moving.ShowsContent, Files.OpensIn, Files.no_files};
 
 use desk_run::Desk;
 use desk_tables::{OpenFault, SqliteStore, read_stats};

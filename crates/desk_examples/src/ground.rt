@@ -1,10 +1,9 @@
 //! Cells, covers and areas, without a desk.
 
 ghost use Rattle.std.specs.Prelude.{◌↔◌, IfOk, IsTrue};
-ghost use Rattle.s2_cover.specs.Ranges.{IsRanges};
-ghost use Rattle.s2_cover.specs.Rectangles.{rect_leaves};
-ghost use Rattle.desk_rules.specs.Sharing.{HaveAPoint};
-ghost use Rattle.desk_examples.specs.Ground.{TokensShare};
+ghost use Rattle.s2_cover.specs.Covers.{IsRanges, rect_leaves};
+ghost use Rattle.desk_rules.specs.Conflict.{HaveAPoint};
+ghost use Rattle.desk_examples.specs.Desks.{TokensShare};
 
 use desk_rules::conflict::share_a_point;
 use desk_rules::laws::shared_point_is_found;

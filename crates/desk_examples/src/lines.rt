@@ -2,9 +2,9 @@
 
 ghost use Rattle.std.specs.Prelude.{◌≡◌, ◌≤◌, IsTrue};
 ghost use Rattle.desk_rules.specs.Limits.{max_priority};
-ghost use Rattle.desk_store.specs.StoreFaults.{IsHonest};
-ghost use Rattle.desk_run.specs.DeskWorld.{enrolled, world_of};
-ghost use Rattle.table_load.specs.OpenWords as spec;
+ghost use Rattle.desk_store.specs.Changes.{IsHonest};
+ghost use Rattle.desk_run.specs.Verdicts.{enrolled, world_of};
+ghost use Rattle.table_load.specs.OpeningSteps as spec;
 
 use desk_cli::{Database, DeskArgs, EnrolArgs, Enrolment, Line};
 use desk_program::with_desk;

@@ -1,10 +1,9 @@
 //! Requests as bytes, and the answers to them.
 
 ghost use Rattle.std.specs.Prelude.{◌≡◌, IfOk, Ok};
-ghost use Rattle.request_parser.specs.Readings.{GivesIfRoom, or_met};
-ghost use Rattle.request_parser.specs.Requests.{asked};
-ghost use Rattle.desk_run.specs.DeskWorld.{enrolled, new_world};
-ghost use Rattle.desk_wire.specs.AllAnswers.{answers_to, sent_in, texts_in};
+ghost use Rattle.request_parser.specs.{Messages.GivesIfRoom, Messages.or_met, Requests.asked};
+ghost use Rattle.desk_run.specs.Verdicts.{enrolled, new_world};
+ghost use Rattle.desk_wire.specs.Bytes.{answers_to, sent_in, texts_in};
 
 use crate::desks::desk_for;
 use desk_rules::operator::Operator;

@@ -2,8 +2,7 @@
 
 ghost use Rattle.std.specs.Prelude.{◌≡◌, [], IfOk};
 ghost use Rattle.desk_rules.specs.Conflict.{conflict};
-ghost use Rattle.desk_store.specs.StoreFaults.{IsHonest};
-ghost use Rattle.desk_store.specs.World.{held, held_at, plans_of};
+ghost use Rattle.desk_store.specs.{Changes.IsHonest, World.held, World.held_at, World.plans_of};
 
 use desk_rules::conflict::first_conflict;
 use desk_rules::operator::Operator;

@@ -1,8 +1,7 @@
 -- What is reported where memory ran out.
 use Rattle.std.proofs.Common.{◌≡◌, ap}
 use Rattle.std.specs.declared.io.ErrorKind.TheVariants as kind
-use Rattle.desk_host.specs.Causes.{IsJournalError, journal_error_text, unread_text}
-use Rattle.desk_host.specs.Operators.{IsUnreadBySystem}
+use Rattle.desk_host.specs.Operators.{IsJournalError, journal_error_text, unread_text, IsUnreadBySystem}
 use Rattle.desk_host.specs.declared.folders.JournalError.{JournalError}
 use Rattle.desk_host.specs.declared.folders.JournalError.TheVariants as unkept
 use Rattle.desk_host.specs.declared.operators.FileReadError.{FileReadError}

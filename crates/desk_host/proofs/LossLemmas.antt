@@ -1,11 +1,11 @@
 -- What is said of the damage of a log.
 use Rattle.std.proofs.Common.{◌≡◌, refl, Bool, true, false, if◌then◌else◌, Result, Ok, Err, ℕ, List, Option, None, Some, inl, inr, subst, sym}
 use Rattle.io_ends.specs.declared.writing.WriteError.{WriteError}
-use Rattle.desk_wire.specs.Passage.{Course}
+use Rattle.desk_wire.specs.Streams.{Course}
 use Rattle.desk_cli.specs.declared.failure.ErrorCode.{ErrorCode}
 use Rattle.desk_cli.specs.declared.failure.ErrorCode.TheVariants as failure
-use Rattle.desk_host.specs.DamageReported.{IsCheckReported, IsLogCheckReported, ReportsLoss, admission_of, damage_line}
-use Rattle.host_files.specs.Reporting.{IsWrittenUpTo}
+use Rattle.desk_host.specs.FoundLogs.{IsCheckReported, IsLogCheckReported, ReportsLoss, admission_of, damage_line}
+use Rattle.host_files.specs.Naming.{IsWrittenUpTo}
 use Rattle.desk_host.specs.declared.damage.LogCheck.{LogCheck}
 use Rattle.desk_host.specs.declared.damage.LogCheckError.{LogCheckError}
 use Rattle.desk_host.specs.declared.damage.LogCheckError.TheVariants.{OutOfMemory, Unread}

@@ -1,6 +1,6 @@
 -- What is said of a file of enrolments that can't be read.
 use Rattle.std.proofs.Common.{◌≡◌, inr, List, [], ◌∷◌, ℕ, Option, None, sym, subst}
-use Rattle.desk_wire.specs.Passage.{course}
+use Rattle.desk_wire.specs.Streams.{course}
 use Rattle.desk_program.specs.Serving.{Grows}
 use Rattle.desk_cli.specs.declared.line.Enrolment.{Enrolment}
 use Rattle.desk_host.specs.Operators.{IsLookResultAt, Asking, IsFileUnread, Stamped}

@@ -1,9 +1,9 @@
 -- What is said of the lines of a file, one after the other.
 use Rattle.std.proofs.Common.{◌≡◌, ◌<◌, ◌+◌, ℕ, Bor, List, [], ◌∷◌, ◌++◌, Option, ap, drop, get_or, length, map, refl, subst, sym}
 use Rattle.std.proofs.lemmas.List.{drop_more}
-use Rattle.desk_wire.specs.Passage.{course}
-use Rattle.host_files.specs.Reporting.{IsWrittenIfRoom, Reports}
-use Rattle.desk_host.specs.ReportedLines.{AreReported, counted_with, line_reported, lines_reported, lines_reported_after}
+use Rattle.desk_wire.specs.Streams.{course}
+use Rattle.host_files.specs.Naming.{IsWrittenIfRoom, Reports}
+use Rattle.desk_host.specs.Operators.{AreReported, counted_with, line_reported, lines_reported, lines_reported_after}
 use Rattle.desk_host.specs.declared.operators.LineCounts.{LineCounts}
 use Rattle.host_files.proofs.lemmas.Reporting.{reports_both}
 

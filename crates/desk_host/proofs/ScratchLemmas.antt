@@ -1,8 +1,8 @@
 -- What the steps of a scratch copy come to.
 use Rattle.std.proofs.Common.{◌≡◌, ℕ, Bool, List, Option, subst}
-use Rattle.desk_wire.specs.Passage.{course}
+use Rattle.desk_wire.specs.Streams.{course}
 use Rattle.host_files.specs.Naming.{Removed, Step, Steps, Takes, log_of}
-use Rattle.desk_host.specs.Scratch.{AreRemoved, IsAsked}
+use Rattle.desk_host.specs.FoundLogs.{AreRemoved, IsAsked}
 
 asked : (steps : Steps) (done : Bool) (path name : List ℕ) → path ≡ name
     → Takes steps done (Removed path) → IsAsked (Removed name) steps

@@ -1,22 +1,162 @@
--- Operators: the file of enrolments that an administrator changes while a desk serves.
-use Rattle.std.specs.Prelude.{◌≡◌, ◌⊎◌, ◌<◌, ◌≤◌, ⊤, ℕ, Bool, false, ◌==◌, if◌then◌else◌, List}
-use Rattle.std.specs.Prelude.{[], ◌∷◌, ◌++◌, codes, decimal, length}
-use Rattle.std.specs.Prelude.{Option, None, Some, IsSome, Result, Ok, Err}
-use Rattle.std.specs.Option.{is_none}
-use Rattle.std.specs.Fs.{IsFile, file_type, metadata_len}
-use Rattle.std.specs.declared.fs.attrs.Metadata.{Metadata}
-use Rattle.std.specs.Result.{IsErrAnd}
-use Rattle.std.specs.Str.Lossy.{utf8_lossy}
-use Rattle.std.specs.declared.io.ErrorKind.{ErrorKind}
-use Rattle.desk_host.specs.Causes.{unread_by, unread_text}
-use Rattle.desk_cli.specs.Register.{parse_enrolment_line, parse_enrolment_lines, lines_of}
+-- The file of enrolments, the folder of journals, and what is reported if one of them can't be read.
+use Rattle.std.specs.Prelude.{◌≡◌, ◌⊎◌, ℕ, List, codes, Option, None, Some, ◌≢◌, ◌+◌, ◌-◌, ◌^◌, ◌==◌, ◌&&◌, Bool, true, false, nat_lt, if◌then◌else◌, ◌++◌, length, decimal, drop, position, take, option_and_then, string_bytes, ◌<◌, ◌≤◌, ⊤, [], ◌∷◌, IsSome, Result, Ok, Err, min, nat_le}
+use Rattle.std.specs.declared.{io.ErrorKind.ErrorKind, fs.attrs.Metadata.Metadata}
+use Rattle.std.specs.declared.io.ErrorKind.TheVariants as kind
+use Rattle.std.specs.{Char.is_ascii_digit, Fmt.format_spec, Fmt.styled_decimal, List.list_all, Str.Parse.digits_value, Option.is_none, Fs.IsFile, Fs.file_type, Fs.metadata_len, Result.IsErrAnd, Str.Lossy.utf8_lossy}
+use Rattle.desk_wire.specs.Streams.{Course, course}
+use Rattle.desk_cli.specs.Malformed.{parse_enrolment_line, parse_enrolment_lines, lines_of}
 use Rattle.desk_cli.specs.declared.line.Enrolment.{Enrolment}
-use Rattle.desk_wire.specs.Passage.{Course, course}
 use Rattle.desk_program.specs.Serving.{Grows}
-use Rattle.desk_host.specs.declared.operators.Stamp.{Stamp}
-use Rattle.desk_host.specs.declared.operators.FileReadError.{FileReadError}
-use Rattle.desk_host.specs.declared.operators.FileReadError.TheVariants.{Cause, Memory}
+use Rattle.host_files.specs.Naming.{IsWrittenIfRoom, line_of}
+use Rattle.desk_host.specs.declared.{folders.JournalError.JournalError, folders.JournalFile.JournalFile, folders.Greatest.Greatest, operators.FileReadError.FileReadError, operators.Stamp.Stamp, operators.FileReadError.TheVariants.Cause, operators.FileReadError.TheVariants.Memory, operators.LineCounts.LineCounts}
+use Rattle.desk_host.specs.declared.folders.JournalError.TheVariants as unkept
+use Rattle.desk_host.specs.declared.operators.FileReadError.TheVariants as unread
+use Rattle.desk_recording.specs.Tail.{HasNoTail}
+use Rattle.desk_recording.specs.declared.tail.TailFault.{TailFault}
+use Rattle.desk_recording.specs.declared.tail.TailFault.TheVariants as tail
 
+-- the text about a file that can't be read; None if memory ran out
+abbrev pub unread_text : FileReadError → Option (List ℕ)
+unread_text unread.Memory = None
+unread_text (unread.Cause cause) = Some cause.now
+
+-- that text, by the kind of the error of the operating system
+abbrev pub unread_by : ErrorKind → Option (List ℕ)
+unread_by kind.OutOfMemory = None
+unread_by kind.NotFound = Some (codes "no such file")
+unread_by kind.PermissionDenied = Some (codes "no right to read it")
+unread_by _ = Some (codes "it can't be read")
+
+-- the text about a journal that can't be read or written; None if memory ran out
+abbrev pub journal_error_text : JournalError → Option (List ℕ)
+journal_error_text unkept.Memory = None
+journal_error_text (unkept.Cause cause) = Some cause.now
+
+-- that text, by the operating system's kind of error, and by the fault in reading the end of a journal
+abbrev pub journal_error_by : ErrorKind → Option (List ℕ)
+journal_error_by kind.OutOfMemory = None
+journal_error_by kind.NotFound = Some (codes "no such folder")
+journal_error_by kind.NotADirectory = Some (codes "no folder")
+journal_error_by kind.PermissionDenied = Some (codes "no right to it")
+journal_error_by kind.ReadOnlyFilesystem = Some (codes "a read-only file system")
+journal_error_by kind.StorageFull = Some (codes "a full disk")
+journal_error_by kind.QuotaExceeded = Some (codes "a full disk")
+journal_error_by kind.AlreadyExists = Some (codes "it is there already")
+journal_error_by _ = Some (codes "it can't be read or written")
+
+abbrev pub tail_error_text : TailFault → Option (List ℕ)
+tail_error_text tail.OutOfMemory = None
+tail_error_text tail.Read = Some (codes "its last record can't be read")
+tail_error_text tail.NoRecord = Some (codes "its last record is none of a desk")
+
+-- an error in reading or writing a journal has the text for some kind of error of the operating system
+pub record IsJournalError (fault : JournalError) : Type 0 where
+  pub kind : ErrorKind
+  pub text : journal_error_text fault ≡ journal_error_by kind
+
+-- an error in reading the end of a journal with these bytes, if they are known: it has the text for a fault
+-- that they have
+pub record IsTailFault (bytes : Option (List ℕ)) (fault : JournalError) : Type 0 where
+  pub tail : TailFault
+  pub has : HasNoTail bytes tail
+  pub text : journal_error_text fault ≡ tail_error_text tail
+
+-- an error in opening a journal or reading its end, whatever bytes it has
+abbrev pub IsTailError : JournalError → Type 0
+IsTailError fault = IsJournalError fault ⊎ ((bytes : Option (List ℕ)) × IsTailFault bytes fault)
+
+-- ==== The names of the journals of a folder, `NUMBER-SECOND.record`
+-- a text is made of decimal digits, and not empty
+unfoldable pub are_digits : List ℕ → Bool
+are_digits text = nat_lt 0 (length text) && list_all is_ascii_digit text
+
+-- the path of the file with this name in a folder
+unfoldable pub path_in : List ℕ → List ℕ → List ℕ
+path_in folder name = folder ++ (codes "/" ++ name)
+
+-- what the name of a journal ends with
+abbrev pub ending : List ℕ
+ending = codes ".record"
+
+-- A journal's number as its name has it: ten digits at least, filled with leading zeros. This is the format
+-- `{:010}`: fill 32 (a space), no alignment, flag 4 (leading zeros), width 10, and no precision (2 ^ 64 - 1).
+abbrev pub digits_of : ℕ → List ℕ
+digits_of number = styled_decimal (format_spec 32 0 4 10 (2 ^ 64 - 1)) number
+
+-- the temporary path of a new journal, and its final path, with the Unix second at which it begins
+unfoldable pub part_of : List ℕ → ℕ → List ℕ
+part_of folder number = folder ++ (codes "/.new-" ++ digits_of number)
+
+unfoldable pub name_of : List ℕ → ℕ → ℕ → List ℕ
+name_of folder number second =
+    folder ++ (codes "/" ++ (digits_of number ++ (codes "-" ++ (decimal second ++ ending))))
+
+-- ---- the number in a name
+-- the byte between the number and the second: `-`
+abbrev pub is_dash : ℕ → Bool
+is_dash byte = byte == 45
+
+-- the number that digits write, if it fits 64 bits
+abbrev pub number_of : List ℕ → Option ℕ
+number_of digits = if nat_lt (digits_value 10 digits) (2 ^ 64) then Some (digits_value 10 digits) else None
+
+-- the number of a journal, by the texts before and after the dash: None if the first has fewer than ten
+-- digits, one of them isn't made of digits, or the number doesn't fit 64 bits
+abbrev pub checked_number : List ℕ → List ℕ → Option ℕ
+checked_number number second = if nat_lt (length number) 10 then None
+    else (if are_digits number then (if are_digits second then number_of number else None) else None)
+
+-- the number of a journal, by its name without the extension; None if that has no dash
+abbrev pub number_in_stem : List ℕ → Option ℕ
+number_in_stem stem =
+    option_and_then (λ i. checked_number (take i stem) (drop (i + 1) stem)) (position is_dash stem)
+
+-- a name is that of the journal with this number; None if it is that of no journal
+abbrev pub IsNumberIn : List ℕ → Option ℕ → Type 0
+IsNumberIn name number = ((stem : List ℕ) × (name ≡ stem ++ ending) × (number ≡ number_in_stem stem))
+    ⊎ (((stem : List ℕ) → name ≢ stem ++ ending) × (number ≡ None))
+
+-- ---- the journal with the greatest number
+-- the path is that of a journal in the folder, with this number in its name
+pub record IsJournalAt (folder : List ℕ) (number : ℕ) (path : List ℕ) : Type 0 where
+  pub name : List ℕ
+  pub has : IsNumberIn name (Some number)
+  pub is : path ≡ path_in folder name
+
+-- the journal with the greatest number so far is one of the folder; so is the journal that is returned
+abbrev pub IsJournalIn : List ℕ → Greatest → Type 0
+IsJournalIn folder it = IsJournalAt folder it.number (string_bytes it.path)
+
+abbrev pub IsJournalFileIn : List ℕ → JournalFile → Type 0
+IsJournalFileIn folder it = IsJournalAt folder it.number (string_bytes it.path)
+
+-- a number is above the greatest so far, if there is one
+abbrev pub is_above : Option Greatest → ℕ → Bool
+is_above None number = true
+is_above (Some it) number = nat_lt it.number number
+
+-- a journal has this number and this path
+abbrev pub IsGreatest : ℕ → List ℕ → Option Greatest → Type 0
+IsGreatest number path (Some it) = (it.number ≡ number) × (string_bytes it.path ≡ path)
+IsGreatest number path None = ⊥
+
+-- The journal with the greatest number before and after a name is read. It is that of the name if the name
+-- has a number that is above the greatest so far; else it stays. The definitions take: whether the number
+-- is above; the number, if the name has one; and the name.
+abbrev pub IsNextBy : Bool → ℕ → List ℕ → Option Greatest → Option Greatest → Type 0
+IsNextBy true number path before now = IsGreatest number path now
+IsNextBy false number path before now = now ≡ before
+
+abbrev pub IsNextOf : Option ℕ → List ℕ → Option Greatest → Option Greatest → Type 0
+IsNextOf (Some number) path before now = IsNextBy (is_above before number) number path before now
+IsNextOf None path before now = now ≡ before
+
+pub record IsNextAt (folder name : List ℕ) (before now : Option Greatest) : Type 0 where
+  pub number : Option ℕ
+  pub has : IsNumberIn name number
+  pub next : IsNextOf number (path_in folder name) before now
+
+-- ==== The file of enrolments that an administrator changes while a desk serves
 -- what is asked of the file at a path, with the answer: its stamp, or its text; None if it has none
 pub data Asking : Type 0 where
   Stamped : List ℕ → Option Stamp → Asking
@@ -33,7 +173,6 @@ IsStampOf said (Ok stamp) = IsFile (file_type said) × (stamp.len ≡ metadata_l
 IsStampOf said (Err fault) = ¬ IsFile (file_type said) × (unread_text fault ≡ Some (codes "no file"))
 
 -- ---- the text of a file
-
 -- a file can't be read for an error of the operating system: the fault has the text for some kind of error
 pub record IsUnreadBySystem (fault : FileReadError) : Type 0 where
   pub kind : ErrorKind
@@ -54,8 +193,7 @@ too_long = codes "longer than 1,048,576 bytes"
 abbrev pub IsTextFault : FileReadError → Type 0
 IsTextFault fault = IsUnreadBySystem fault ⊎ (unread_text fault ≡ Some too_long)
 
--- the text of these bytes of a file, in which invalid UTF-8 is replaced; or why it isn't read: an error of
--- the operating system, or too many bytes
+-- a file's bytes as text, invalid UTF-8 replaced; or why it isn't read: the system's error, or too many bytes
 abbrev pub IsTextOf : List ℕ → Result (List ℕ) FileReadError → Type 0
 IsTextOf bytes (Ok text) = (length bytes ≤ max_bytes) × (text ≡ utf8_lossy bytes)
 IsTextOf bytes (Err fault) =
@@ -77,8 +215,7 @@ malformed_line number = codes "line " ++ (decimal number ++ codes " is not NAME 
 unfoldable pub more_lines : ℕ → List ℕ
 more_lines count = decimal count ++ codes " more such lines"
 
--- the file at a path was asked for its stamp and its text, and the enrolments are those on the lines of the
--- text
+-- the file at a path was asked for its stamp and text, and the enrolments are those on the text's lines
 pub record AreEnrolmentsRead (path : List ℕ) (files : Course (Option (List Asking)))
     (enrolments : List Enrolment) : Type 0
   where
@@ -116,3 +253,46 @@ abbrev pub IsLookResult :
     Option (List ℕ) → Course (Option Stamp) → Course (Option (List Asking)) → List Enrolment → Type 0
 IsLookResult None seen files newly_enrolled = (newly_enrolled ≡ []) × (files.after ≡ files.before)
 IsLookResult (Some path) seen files newly_enrolled = IsLookResultAt path seen files newly_enrolled
+
+-- ==== Which lines of a file of enrolments are reported as malformed
+-- lines are written in their order, each at most once: a failed write, and a lack of memory, are ignored
+abbrev pub AreReported : List (List ℕ) → Option (List ℕ) → Option (List ℕ) → Type 0
+AreReported [] before now = now ≡ before
+AreReported (line ∷ lines) before now =
+    (between : Option (List ℕ)) × IsWrittenIfRoom line (course before between) × AreReported lines between now
+
+-- how many malformed lines of a file are reported one by one
+abbrev pub reported_lines : ℕ
+reported_lines = 20
+
+-- one more, at most the greatest number of 32 bits
+abbrev pub one_more : ℕ → ℕ
+one_more count = min (count + 1) (2 ^ 32 - 1)
+
+-- the counts of lines and of malformed lines, once this line is counted too
+abbrev pub counted_with : List ℕ → LineCounts → LineCounts
+counted_with line so_far = record {
+  lines = one_more so_far.lines;
+  malformed = if is_malformed line then one_more so_far.malformed else so_far.malformed;
+}
+
+-- the lines reported about the last line counted: one if it is malformed and among the first that are
+abbrev pub line_reported : List ℕ → List ℕ → LineCounts → List (List ℕ)
+line_reported path line so_far = if is_malformed line then (if nat_le so_far.malformed reported_lines
+    then line_of path (malformed_line so_far.lines) ∷ [] else []) else []
+
+-- the lines reported about the malformed lines beyond the first: one, if there are any
+abbrev pub rest_reported : List ℕ → ℕ → List (List ℕ)
+rest_reported path malformed =
+    if nat_lt reported_lines malformed then line_of path (more_lines (malformed - reported_lines)) ∷ []
+    else []
+
+-- the lines reported about the rest of a file, once `so_far` counts the lines before
+abbrev pub lines_reported_after : List ℕ → LineCounts → List (List ℕ) → List (List ℕ)
+lines_reported_after path so_far [] = rest_reported path so_far.malformed
+lines_reported_after path so_far (line ∷ lines) = line_reported path line (counted_with line so_far)
+    ++ lines_reported_after path (counted_with line so_far) lines
+
+-- the lines reported about all lines of a file
+abbrev pub lines_reported : List ℕ → List (List ℕ) → List (List ℕ)
+lines_reported path lines = lines_reported_after path (record { lines = 0; malformed = 0 }) lines

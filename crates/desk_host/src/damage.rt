@@ -1,16 +1,12 @@
 //! Checks the WAL of a database file before the file is opened.
 
-ghost use Rattle.std.specs.Prelude.{◌≡◌, ℕ, false, IfErr, IfNone, IfOk, IfSome, List, Ok, length};
-ghost use Rattle.std.specs.Prelude.{string_bytes};
+ghost use Rattle.std.specs.Prelude.{◌≡◌, ℕ, false, IfErr, IfNone, IfOk, IfSome, List, Ok, length, string_bytes};
 ghost use Rattle.desk_cli.specs.Lines.{file_of};
-ghost use Rattle.desk_program.specs.Outside.{bytes_written};
-ghost use Rattle.db_file.specs.Commits.{HasCommit};
-ghost use Rattle.db_file.specs.Damage.{IsDamaged};
-ghost use Rattle.desk_host.specs.DamageReported as spec;
-ghost use Rattle.desk_host.specs.FoundLogs as logs;
-ghost use Rattle.desk_host.specs.DamageReported.{HasLogCheckCause, IsCheckReported, IsFoundChecked, IsLogCheckReported, IsLogCheckOf};
-ghost use Rattle.host_files.specs.Openings.{OpensAtMost};
-ghost use Rattle.host_files.specs.Reporting.{IsWrittenUpTo};
+ghost use Rattle.desk_program.specs.Keeping.{bytes_written};
+ghost use Rattle.db_file.specs.Wal.{HasCommit, IsDamaged};
+ghost use Rattle.desk_host.specs.FoundLogs as spec;
+ghost use Rattle.desk_host.specs.FoundLogs.{HasLogCheckCause, IsCheckReported, IsFoundChecked, IsLogCheckReported, IsLogCheckOf};
+ghost use Rattle.host_files.specs.{Paths.OpensAtMost, Naming.IsWrittenUpTo};
 
 use crate::logs::{FoundLog, find_log};
 use db_file::{WalError, WalState, check_wal, commits_are_long, damaged_is_long};
@@ -200,7 +196,7 @@ fn report_damage<E: Write>(
 
 // The line that reports damage of the WAL of the file at `path`: from which frame on, counted from 0, and
 // how many commits are lost.
-#[tactic(auto, unfolding(crate::specs::DamageReported::damage_line))]
+#[tactic(auto, unfolding(crate::specs::FoundLogs::damage_line))]
 fn damage_line(alloc: Global, path: &str, frame: u64, commits: u64) -> Result<String, AllocError>
     ensures { IfOk result (λ line. string_bytes line ≡ spec.damage_line path.now frame commits) }
 {
@@ -212,7 +208,7 @@ fn damage_line(alloc: Global, path: &str, frame: u64, commits: u64) -> Result<St
 
 /// Whether a WAL of `size` bytes is long enough to have a commit. If not, it has none.
 pub(crate) fn may_have_commit(size: u64) -> bool
-    ensures exact { result ≡ logs.may_have_commit size }
+    ensures exact { result ≡ spec.may_have_commit size }
     ensures none { result ≡ false → (log : List ℕ) → length log ≡ size → ¬ HasCommit log }
 {
     commits_are_long();
@@ -221,7 +217,7 @@ pub(crate) fn may_have_commit(size: u64) -> bool
 
 /// Whether a WAL of `size` bytes is long enough to be damaged. If not, it isn't.
 pub(crate) fn may_be_damaged(size: u64) -> bool
-    ensures exact { result ≡ logs.may_be_damaged size }
+    ensures exact { result ≡ spec.may_be_damaged size }
     ensures none { result ≡ false → (log : List ℕ) → length log ≡ size
         → (frame commits : ℕ) → ¬ IsDamaged log frame commits }
 {

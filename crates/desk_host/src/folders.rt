@@ -1,14 +1,11 @@
 //! The folder of a desk's journals: which files it has, and how a new one gets its name. No contract says
 //! what the operating system did.
 
-ghost use Rattle.std.specs.Prelude.{◌≡◌, ◌≢◌, ◌++◌, IfErr, IfOk, IfSome, List, MatchOption};
-ghost use Rattle.std.specs.Prelude.{ℕ, string_bytes, true};
-ghost use Rattle.std.specs.Char.{is_ascii_digit};
-ghost use Rattle.std.specs.List.{list_all};
+ghost use Rattle.std.specs.Prelude.{◌≡◌, ◌≢◌, ◌++◌, IfErr, IfOk, IfSome, List, MatchOption, ℕ, string_bytes, true};
+ghost use Rattle.std.specs.{Char.is_ascii_digit, List.list_all};
 ghost use Rattle.desk_recording.specs.Tail.{IsTail, tail_shown};
-ghost use Rattle.desk_host.specs.Causes.{IsTailFault, IsTailError, IsJournalError};
-ghost use Rattle.desk_host.specs.Journals as spec;
-ghost use Rattle.desk_host.specs.Journals.{IsJournalFileIn, IsJournalIn, IsNextAt, IsNumberIn};
+ghost use Rattle.desk_host.specs.Operators.{IsTailFault, IsTailError, IsJournalError, IsJournalFileIn, IsJournalIn, IsNextAt, IsNumberIn};
+ghost use Rattle.desk_host.specs.Operators as spec;
 
 use desk_recording::{Tail, TailEnd, TailFault, read_tail};
 use host_files::naming::{OWNER_ALONE, READ_ONLY, TAKEN, sync_folder};
@@ -45,7 +42,7 @@ impl From<AllocError> for JournalError {
 
 impl From<TailFault> for JournalError {
     ghost use Rattle.std.specs.Prelude.{◌≡◌};
-    ghost use Rattle.desk_host.specs.Causes.{tail_error_text, journal_error_text};
+    ghost use Rattle.desk_host.specs.Operators.{tail_error_text, journal_error_text};
 
     ghost from_gives = { λ fault it. journal_error_text it ≡ tail_error_text fault };
 
@@ -61,7 +58,7 @@ impl From<TailFault> for JournalError {
 impl From<io::Error> for JournalError {
     ghost use Rattle.std.specs.Prelude.{◌≡◌};
     ghost use Rattle.std.specs.IoError.{error_kind};
-    ghost use Rattle.desk_host.specs.Causes.{journal_error_by, journal_error_text};
+    ghost use Rattle.desk_host.specs.Operators.{journal_error_by, journal_error_text};
 
     ghost from_gives = { λ error it. journal_error_text it ≡ journal_error_by (error_kind error) };
 
@@ -209,7 +206,7 @@ fn number_of(digits: &str) -> Option<u64>
 }
 
 // Whether a text is made of decimal digits, and not empty.
-#[tactic(auto, unfolding(crate::specs::Journals::are_digits))]
+#[tactic(auto, unfolding(crate::specs::Operators::are_digits))]
 fn are_digits(text: &str) -> bool
     ensures { result ≡ spec.are_digits text.now }
 {
@@ -227,7 +224,7 @@ fn all_digits(bytes: &[u8]) -> bool
 }
 
 // The path of the file `name` in a folder.
-#[tactic(auto, unfolding(crate::specs::Journals::path_in))]
+#[tactic(auto, unfolding(crate::specs::Operators::path_in))]
 fn path_in(alloc: Global, folder: &str, name: &str) -> Result<String, AllocError>
     ensures { IfOk result (λ path. string_bytes path ≡ spec.path_in folder.now name.now) }
 {
@@ -339,7 +336,7 @@ pub fn name_part(
 }
 
 // The final path of a journal, by its number and the Unix second at which it begins.
-#[tactic(auto, unfolding(crate::specs::Journals::name_of))]
+#[tactic(auto, unfolding(crate::specs::Operators::name_of))]
 fn name_of(alloc: Global, folder: &str, number: u64, second: u64) -> Result<String, AllocError>
     ensures { IfOk result (λ path. string_bytes path ≡ spec.name_of folder.now number second) }
 {
@@ -348,7 +345,7 @@ fn name_of(alloc: Global, folder: &str, number: u64, second: u64) -> Result<Stri
 
 // The temporary path of the new journal with this number. It lacks the extension, so it is taken for no
 // journal.
-#[tactic(auto, unfolding(crate::specs::Journals::part_of))]
+#[tactic(auto, unfolding(crate::specs::Operators::part_of))]
 fn part_of(alloc: Global, folder: &str, number: u64) -> Result<String, AllocError>
     ensures { IfOk result (λ path. string_bytes path ≡ spec.part_of folder.now number) }
 {

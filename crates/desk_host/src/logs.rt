@@ -4,7 +4,7 @@ ghost use Rattle.std.specs.Prelude.{◌≡◌, IfErr, IfOk, IfSome};
 ghost use Rattle.desk_cli.specs.declared.failure.ErrorCode.TheVariants.{Memory};
 ghost use Rattle.desk_host.specs.FoundLogs as spec;
 ghost use Rattle.desk_host.specs.FoundLogs.{IsLogAt, IsLogBeside};
-ghost use Rattle.host_files.specs.Openings.{OpensAtMost};
+ghost use Rattle.host_files.specs.Paths.{OpensAtMost};
 
 use crate::damage::{may_be_damaged, may_have_commit};
 use desk_cli::ErrorCode;

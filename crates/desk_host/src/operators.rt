@@ -1,22 +1,13 @@
 //! The file of enrolments that the administrator changes while a desk serves: lines `NAME CEILING`.
 
-ghost use Rattle.std.specs.Prelude.{◌≡◌, List, [], ◌∷◌, IfErr, IfOk, IfSome, map};
-ghost use Rattle.std.specs.Prelude.{MatchResult, None, Option, option_map};
-ghost use Rattle.std.specs.Prelude.{string_bytes};
+ghost use Rattle.std.specs.Prelude.{◌≡◌, List, [], ◌∷◌, IfErr, IfOk, IfSome, map, MatchResult, None, Option, option_map, string_bytes};
 ghost use Rattle.std.specs.IoError.{error_kind};
 ghost use Rattle.desk_cli.specs.Lines.{AreEnrolments};
-ghost use Rattle.desk_wire.specs.Passage.{course};
-ghost use Rattle.desk_program.specs.Outside.{bytes_written};
-ghost use Rattle.desk_program.specs.Serving.{Grows};
-ghost use Rattle.host_files.specs.Answers.{by_ok};
-ghost use Rattle.desk_host.specs.Causes as cause;
-ghost use Rattle.desk_host.specs.Causes.{unread_by, unread_text};
+ghost use Rattle.desk_wire.specs.Streams.{course};
+ghost use Rattle.desk_program.specs.{Keeping.bytes_written, Serving.Grows};
+ghost use Rattle.host_files.specs.{Access.by_ok, Naming.IsWrittenIfRoom, Naming.Reports, Naming.line_of};
+ghost use Rattle.desk_host.specs.Operators.{unread_by, unread_text, AreEnrolmentsRead, IsLookResult, Asking, HasUnreadCause, IsStampOf, Read, Stamped, ok_of, IsUnreadIf, IsTextFault, IsTextOf, IsUnstamped, AreReported};
 ghost use Rattle.desk_host.specs.Operators as spec;
-ghost use Rattle.desk_host.specs.Operators.{AreEnrolmentsRead, IsLookResult, Asking, HasUnreadCause, IsStampOf, Read, Stamped, ok_of};
-ghost use Rattle.desk_host.specs.Operators.{IsUnreadIf, IsTextFault, IsTextOf, IsUnstamped};
-ghost use Rattle.desk_host.specs.ReportedLines as reported;
-ghost use Rattle.desk_host.specs.ReportedLines.{AreReported};
-ghost use Rattle.host_files.specs.Reporting.{IsWrittenIfRoom, Reports, line_of};
 
 use desk_cli::{Enrolment, ErrorCode, lines_of, parse_enrolment_line, parse_enrolment_lines};
 use desk_program::EnrolmentSource;
@@ -67,7 +58,7 @@ impl From<AllocError> for FileReadError {
 impl From<io::Error> for FileReadError {
     ghost use Rattle.std.specs.Prelude.{◌≡◌};
     ghost use Rattle.std.specs.IoError.{error_kind};
-    ghost use Rattle.desk_host.specs.Causes.{unread_by, unread_text};
+    ghost use Rattle.desk_host.specs.Operators.{unread_by, unread_text};
 
     ghost from_gives = { λ error it. unread_text it ≡ unread_by (error_kind error) };
 
@@ -78,7 +69,7 @@ impl From<io::Error> for FileReadError {
 
 // Why a file can't be read, by the kind of the error.
 fn unread_by(kind: ErrorKind) -> FileReadError
-    ensures { unread_text result ≡ cause.unread_by kind }
+    ensures { unread_text result ≡ spec.unread_by kind }
 {
     match kind {
         ErrorKind::OutOfMemory => FileReadError::Memory,
@@ -252,7 +243,7 @@ fn stamp_of(rt: &HostRuntime, path: &str) -> Result<Stamp, FileReadError>
 // The stamp of a file, by its metadata. An error if they can't be had, or it isn't a regular file.
 fn stamp_by(found: io::Result<Metadata>) -> Result<Stamp, FileReadError>
     ensures stamp { MatchResult found (λ said. IsStampOf said result)
-        (λ error. IfErr result (λ fault. unread_text fault ≡ cause.unread_by (error_kind error))) }
+        (λ error. IfErr result (λ fault. unread_text fault ≡ spec.unread_by (error_kind error))) }
     ensures cause { IfErr result IsUnstamped }
 {
     let found = found?;
@@ -309,7 +300,7 @@ struct LineCounts {
 impl LineCounts {
     // The counts once `line` is counted too.
     fn with(self, line: &str) -> LineCounts
-        ensures { result ≡ reported.counted_with line.now self }
+        ensures { result ≡ spec.counted_with line.now self }
     {
         LineCounts {
             lines: self.lines.saturating_add(1),
@@ -332,7 +323,7 @@ fn report_lines<E: Write>(
     errors: &mut E,
 ) -> Result<(), AllocError>
     ensures reported { IfOk result (λ _. AreReported
-        (reported.lines_reported path.now (map (λ line. line.now) lines.now))
+        (spec.lines_reported path.now (map (λ line. line.now) lines.now))
         (E.contents errors.old) (E.contents errors.new)) }
     ensures appended { Reports (bytes_written E.Write errors.old errors.new) }
 {
@@ -357,7 +348,7 @@ fn report_if_malformed<E: Write>(
     counted: LineCounts,
     errors: &mut E,
 ) -> Result<(), AllocError>
-    ensures reported { IfOk result (λ _. AreReported (reported.line_reported path.now line.now counted)
+    ensures reported { IfOk result (λ _. AreReported (spec.line_reported path.now line.now counted)
         (E.contents errors.old) (E.contents errors.new)) }
     ensures appended { Reports (bytes_written E.Write errors.old errors.new) }
 {
@@ -377,7 +368,7 @@ fn report_rest<E: Write>(
     malformed: u32,
     errors: &mut E,
 ) -> Result<(), AllocError>
-    ensures reported { IfOk result (λ _. AreReported (reported.rest_reported path.now malformed)
+    ensures reported { IfOk result (λ _. AreReported (spec.rest_reported path.now malformed)
         (E.contents errors.old) (E.contents errors.new)) }
     ensures appended { Reports (bytes_written E.Write errors.old errors.new) }
 {

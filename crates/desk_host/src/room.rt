@@ -2,7 +2,7 @@
 
 ghost use Rattle.std.specs.Prelude.{OnErr, OnOk, List, is_ok, ℕ};
 ghost use Rattle.host_files.specs.Naming.{AreNames, Cleared, Follows, Free, IsNotFree, Takes, Tried, free_steps};
-ghost use Rattle.host_files.specs.FolderSteps.{steps_of};
+ghost use Rattle.host_files.specs.Paths.{steps_of};
 
 use host_files::access::new_cause;
 use host_files::naming::{Folder, NewFile};

@@ -2,11 +2,9 @@
 
 ghost use Rattle.std.specs.Prelude.{◌≡◌, IfErr, IfOk, List, OnOk, ℕ};
 ghost use Rattle.desk_cli.specs.Exits.{IsLineBreakdown};
-ghost use Rattle.desk_program.specs.Outside.{bytes_written};
-ghost use Rattle.host_files.specs.Naming.{Follows};
-ghost use Rattle.host_files.specs.FolderSteps.{steps_of};
-ghost use Rattle.desk_host.specs.Scratch.{AreRemoved, AreScratchPaths, IsNotCopied, make_steps, scratch_of};
-ghost use Rattle.host_files.specs.Reporting.{Reports};
+ghost use Rattle.desk_program.specs.Keeping.{bytes_written};
+ghost use Rattle.host_files.specs.{Naming.Follows, Naming.Reports, Paths.steps_of};
+ghost use Rattle.desk_host.specs.FoundLogs.{AreRemoved, AreScratchPaths, IsNotCopied, make_steps, scratch_of};
 
 use desk_cli::ErrorCode;
 use host_files::naming::{Folder, name_with};

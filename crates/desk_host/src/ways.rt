@@ -3,8 +3,8 @@
 
 ghost use Rattle.std.specs.Prelude.{◌≡◌, false, IfSome};
 ghost use Rattle.host_files.specs.Access as access;
-ghost use Rattle.desk_host.specs.Ways as spec;
-ghost use Rattle.desk_host.specs.Ways.{HasChanges, IsModeAt, MayBeRead};
+ghost use Rattle.desk_host.specs.FoundLogs as spec;
+ghost use Rattle.desk_host.specs.FoundLogs.{HasChanges, IsModeAt, MayBeRead};
 
 use crate::logs::has_commit;
 use host_files::files::{HostFiles, LocalHost};

@@ -6,8 +6,7 @@ use Rattle.std.specs.Result.{IsErrAnd}
 use Rattle.io_ends.specs.Writing.{BreaksOff}
 use Rattle.io_ends.specs.declared.writing.PartialWrite.{PartialWrite}
 use Rattle.desk_cli.specs.declared.failure.ErrorCode.{ErrorCode}
-use Rattle.desk_cli.specs.Exits.{IsAnnounced}
-use Rattle.desk_cli.specs.Written.{IsPartlyWritten}
+use Rattle.desk_cli.specs.Exits.{IsAnnounced, IsPartlyWritten}
 use Rattle.desk_cli.specs.declared.failure.ErrorCode.TheVariants as failure
 
 some_left : (n : ℕ) (bytes : List ℕ) → n < length bytes → drop n bytes ≢ []

@@ -2,7 +2,7 @@
 use Rattle.std.proofs.Common.{◌≡◌, ◌∙◌, ◌==◌, ◌≤◌, ℕ, List, Bool, true, false, Option, Some, None, if◌then◌else◌, Result, Ok, Err, inl, inr, sym, subst, ap, refl, arith}
 use Rattle.std.specs.Prelude.{⊤, IfErr}
 use Rattle.desk_store.specs.declared.store.PlanStore.{Ghosts}
-use Rattle.desk_store.specs.StoreFaults.{HasRisen}
+use Rattle.desk_store.specs.Changes.{HasRisen}
 use Rattle.desk_run.specs.declared.fault.DeskFault.{DeskFault}
 use Rattle.desk_run.specs.declared.fault.DeskFault.TheVariants as desk
 use Rattle.io_ends.specs.declared.serving.Served.{Served}
@@ -13,8 +13,8 @@ use Rattle.desk_cli.specs.declared.failure.ErrorCode.{ErrorCode}
 use Rattle.desk_cli.specs.declared.failure.ErrorCode.TheVariants.{Store, Broken, Memory}
 use Rattle.desk_cli.specs.declared.failure.ErrorCode.TheVariants as failure
 use Rattle.desk_cli.specs.Exits.{Ending, EndsWith, enrolment_failure, failure_at}
-use Rattle.desk_program.specs.EndCauses.{HasCause, IsEndCounted}
-use Rattle.desk_run.specs.DeskWorld.{Parts}
+use Rattle.desk_program.specs.Enrolling.{HasCause, IsEndCounted}
+use Rattle.desk_run.specs.Verdicts.{Parts}
 use Rattle.std.specs.Result.{IsErrAnd}
 use Rattle.desk_program.specs.Serving.{IsPortError, Traffic, error_in, first_failure}
 

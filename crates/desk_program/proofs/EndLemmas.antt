@@ -2,17 +2,16 @@
 use Rattle.std.proofs.Common.{◌≡◌, ◌⊎◌, ◌∙◌, inl, inr, ap, refl, subst, ℕ, List, Option, Some, Result, Ok, Err}
 use Rattle.std.specs.Prelude.{⊤}
 use Rattle.desk_store.specs.World.{World}
-use Rattle.desk_run.specs.DeskWorld.{DeskWorld, enrolled}
+use Rattle.desk_run.specs.Verdicts.{DeskWorld, enrolled}
 use Rattle.desk_run.specs.declared.fault.DeskFault.{DeskFault}
-use Rattle.desk_run.specs.CallFaults.{IsBreakdown as IsDeskBreakdown}
-use Rattle.desk_wire.specs.Passage.{course, passed}
+use Rattle.desk_run.specs.Calls.{IsBreakdown as IsDeskBreakdown}
+use Rattle.desk_wire.specs.Streams.{course, passed}
 use Rattle.desk_cli.specs.declared.failure.ErrorCode.{ErrorCode}
 use Rattle.desk_cli.specs.declared.line.Enrolment.{Enrolment}
 use Rattle.desk_cli.specs.declared.line.PlayArgs.{PlayArgs}
 use Rattle.desk_cli.specs.Exits.{Ending, EndsWith, FailsWith, IsBrokenDown, IsLineBreakdown, enrolment_failure}
-use Rattle.desk_program.specs.Enrolling.{AreEnrolledSoFar, on_terms}
+use Rattle.desk_program.specs.Enrolling.{AreEnrolledSoFar, on_terms, IsNotPlayed}
 use Rattle.desk_program.specs.Keeping.{FindsEnrolled}
-use Rattle.desk_program.specs.PlayLines.{IsNotPlayed}
 
 -- what it is reported as
 pub reported_breakdown : (fault : DeskFault) (f : ErrorCode) → f ≡ enrolment_failure fault → IsDeskBreakdown fault

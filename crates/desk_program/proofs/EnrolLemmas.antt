@@ -1,9 +1,9 @@
 -- Operators listed one after the other.
 use Rattle.std.proofs.Common.{◌≡◌, ◌≤◌, ◌∙◌, ℕ, List, [], ◌∷◌, ◌++◌, Some, Result, Ok, Err, IfErr, ap, refl, sym}
 use Rattle.std.specs.Result.{IsErrAnd}
-use Rattle.desk_store.specs.StoreFaults.{HasRisen}
-use Rattle.desk_run.specs.CallFaults.{IsStoreFaultCounted}
-use Rattle.desk_run.specs.DeskWorld.{DeskWorld, enrolled}
+use Rattle.desk_store.specs.Changes.{HasRisen}
+use Rattle.desk_run.specs.Calls.{IsStoreFaultCounted}
+use Rattle.desk_run.specs.Verdicts.{DeskWorld, enrolled}
 use Rattle.desk_run.specs.declared.fault.DeskFault.{DeskFault}
 use Rattle.desk_run.specs.declared.fault.DeskFault.TheVariants.{Store}
 use Rattle.desk_run.proofs.lemmas.Crash.{risen_since}

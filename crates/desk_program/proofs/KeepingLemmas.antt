@@ -5,25 +5,20 @@ use Rattle.std.specs.Result.{IsErrAnd}
 use Rattle.std.proofs.lemmas.List.{length-append, map-append}
 use Rattle.std.proofs.lemmas.List.Elements.{All-append, All-cons, All-nil}
 use Rattle.desk_store.specs.declared.store.PlanStore.{Ghosts}
-use Rattle.desk_store.specs.StoreFaults.{IsHonest}
-use Rattle.desk_store.specs.World.{World}
-use Rattle.desk_store.specs.Crashes.{LeavesNoMore, LeavesOldOr, LeavesOnly}
-use Rattle.desk_run.specs.DeskWorld.{DeskWorld, Parts, enrolled, world_of}
+use Rattle.desk_store.specs.Changes.{IsHonest}
+use Rattle.desk_store.specs.World.{World, LeavesNoMore, LeavesOldOr, LeavesOnly}
+use Rattle.desk_run.specs.Verdicts.{DeskWorld, Parts, enrolled, world_of}
 use Rattle.io_ends.specs.declared.playing.PlayEnd.{PlayEnd}
-use Rattle.desk_wire.specs.Given.{reported_in_play}
-use Rattle.desk_wire.specs.RequestsKept.{IsCertain, IsFoundNow, IsKept, IsLeftBy}
-use Rattle.desk_wire.specs.Passage.{Passage, course}
+use Rattle.desk_wire.specs.Given.{reported_in_play, IsCertain, IsFoundNow, IsKept, IsLeftBy}
+use Rattle.desk_wire.specs.Streams.{Passage, course, HasServed, IsTaken}
 use Rattle.desk_wire.specs.Playing.{HasPlayed}
-use Rattle.desk_wire.specs.OneRequest.{HasServed, IsTaken}
 use Rattle.desk_cli.specs.declared.failure.ErrorCode.{ErrorCode}
 use Rattle.desk_cli.specs.declared.line.Enrolment.{Enrolment}
 use Rattle.desk_cli.specs.declared.line.PlayArgs.{PlayArgs}
 use Rattle.desk_cli.specs.declared.line.ServeArgs.{ServeArgs}
 use Rattle.desk_cli.specs.Exits.{Ending, EndsWith, failure_after, failure_at}
-use Rattle.desk_program.specs.Enrolling.{AreEnrolled, HasEnrolled, on_terms, with_operators}
+use Rattle.desk_program.specs.Enrolling.{AreEnrolled, HasEnrolled, on_terms, with_operators, done_unless, IsOpen}
 use Rattle.desk_program.specs.Keeping.{AreKept, AreKeptSoFar, FindsEnrolments, FindsNewEnrolments, IsFoundServed, IsLeftByOne, IsPlayKept, IsPortKept}
-use Rattle.desk_program.specs.PlayLines.{done_unless}
-use Rattle.desk_program.specs.Recorded.{IsOpen}
 use Rattle.desk_program.specs.Serving.{AreNoted, AreServed, BringsEnrolments, AddsNothingNew, EndsAfter, EndsAtEnrolments, Exchange, Grows, IsAskedToListen, IsPortError, IsLastEnrolments, IsUnsent, Traffic, error_in, first_failure, news_of, outcome_of, passage_of}
 use Rattle.desk_program.proofs.ServedLemmas.{all_then, all_unsent, both_more, both_news, both_noted, both_served, none, none_last, none_more, not_ok, one_closed, one_ends, served_then, stays, stops}
 

@@ -10,25 +10,22 @@ use Rattle.std.proofs.Math.Seq.{take-length}
 use Rattle.desk_store.specs.World.{Listed, World, ceiling_of, own, text_cmp}
 use Rattle.desk_store.specs.Changes.{list_operator, with_operator}
 use Rattle.request_parser.specs.Requests.{asked}
-use Rattle.desk_run.specs.DeskWorld.{DeskWorld, enrolled, side}
-use Rattle.desk_run.specs.Sides.{OwnAlike}
+use Rattle.desk_run.specs.Verdicts.{DeskWorld, enrolled, side}
+use Rattle.desk_run.specs.Calls.{OwnAlike}
 use Rattle.desk_run.proofs.lemmas.TwoRun.{same_name}
 use Rattle.io_ends.specs.declared.serving.Served.{Served}
 use Rattle.io_ends.specs.declared.serving.Served.TheVariants.{Answered, End}
 use Rattle.io_ends.specs.declared.serving.ServeFault.{ServeFault}
 use Rattle.io_ends.specs.declared.serving.ServeFault.TheVariants.{Read, Write, CutShort, OutOfMemory}
 use Rattle.desk_wire.specs.declared.response.ServerError.{ServerError}
-use Rattle.desk_wire.specs.AllAnswers.{Sent}
-use Rattle.desk_wire.specs.Bytes.{IsAnsweredSo, text_for}
+use Rattle.desk_wire.specs.Bytes.{Sent, IsAnsweredSo, text_for}
 use Rattle.desk_wire.specs.Headline.{LookAlike, sender}
-use Rattle.desk_wire.specs.OneRequest.{HasServed, IsTaken, IsUntouched}
-use Rattle.desk_wire.specs.Passage.{Course, course}
+use Rattle.desk_wire.specs.Streams.{HasServed, IsTaken, IsUntouched, Course, course}
 use Rattle.desk_wire.proofs.HeadlineLemmas.{headline, same_text}
 use Rattle.desk_cli.specs.declared.failure.ErrorCode.{ErrorCode}
 use Rattle.desk_cli.specs.declared.line.Enrolment.{Enrolment}
 use Rattle.desk_program.specs.Enrolling.{AreEnrolled, with_operators}
-use Rattle.desk_program.specs.PortGiven.{IsWhole}
-use Rattle.desk_program.specs.PortTurns.{AreTurns, HasTurns, IsGiven, IsSent, ListsLast, Sends, Turn, caller, left_by, sent_in, world_by, world_met}
+use Rattle.desk_program.specs.PortGiven.{IsWhole, AreTurns, HasTurns, IsGiven, IsSent, ListsLast, Sends, Turn, caller, left_by, sent_in, world_by, world_met}
 use Rattle.desk_program.specs.Serving.{AreServed, AreTaken, Exchange, Grows, IsAskedToListen, IsLastEnrolments, Parting, Traffic, is_answered, outcome_of, passage_of}
 
 -- ---- what one client was sent

@@ -4,20 +4,18 @@ use Rattle.std.specs.Prelude.{⊤, IfErr, OnOk}
 use Rattle.std.specs.Result.{IsErrAnd}
 use Rattle.std.proofs.lemmas.List.{length-append, append_assoc, append-nil}
 use Rattle.std.proofs.lemmas.List.Elements.{All-append, All-cons, All-head, All-nil, All-tail}
-use Rattle.desk_run.specs.DeskWorld.{DeskWorld}
+use Rattle.desk_run.specs.Verdicts.{DeskWorld}
 use Rattle.io_ends.specs.declared.serving.Served.{Served}
 use Rattle.io_ends.specs.declared.serving.Served.TheVariants.{Answered, End}
 use Rattle.io_ends.specs.declared.serving.ServeFault.{ServeFault}
 use Rattle.io_ends.specs.declared.serving.ServeFault.TheVariants.{Read, Write, CutShort, OutOfMemory}
-use Rattle.desk_wire.specs.Passage.{Course, Passage, course}
-use Rattle.desk_wire.specs.OneRequest.{HasServed, IsReplied}
+use Rattle.desk_wire.specs.Streams.{Course, Passage, course, HasServed, IsReplied}
 use Rattle.desk_wire.specs.declared.response.ServerError.{ServerError}
 use Rattle.desk_cli.specs.declared.failure.ErrorCode.{ErrorCode}
 use Rattle.desk_cli.specs.Exits.{failure_at}
 use Rattle.desk_cli.specs.declared.line.ServeArgs.{ServeArgs}
 use Rattle.desk_cli.specs.declared.line.Enrolment.{Enrolment}
-use Rattle.desk_program.specs.Enrolling.{AreEnrolled, on_terms, with_operators}
-use Rattle.desk_program.specs.Recorded.{IsCutOff, IsOpen, Noted, Recorded, Ended, Open, RecordsNone, with_news, with_request}
+use Rattle.desk_program.specs.Enrolling.{AreEnrolled, on_terms, with_operators, JournalEnds, IsOpen, Noted, Recorded, Ended, Open, RecordsNone, with_news, with_request}
 use Rattle.desk_program.specs.Serving.{AreNoted, AreServed, AreTaken, AddsNothingNew, EndsAfter, EndsAtEnrolments, EndsDeskBy, Exchange, Grows, IsAskedToListen, IsAtPort, IsPortError, IsLastEnrolments, IsUnsent, Parting, PrintsIfListening, Traffic, error_in, first_failure, news_of, outcome_of, passage_of}
 
 -- ---- the connections that are taken
@@ -80,9 +78,9 @@ none_noted (x ∷ xs) last new = (
 
 -- nothing is brought or taken once a record has ended
 ended_noted : (n : Noted) (text : List ℕ) (xs : List Exchange) (last : Option (List Enrolment))
-    (new : Option Recorded) → IsCutOff n (Some (Ended text)) → AreNoted (Some (Ended text)) xs last new
+    (new : Option Recorded) → JournalEnds n (Some (Ended text)) → AreNoted (Some (Ended text)) xs last new
     → AreNoted (Some (Open n)) xs last new
-ended_noted n text [] None new cut same = inr (subst (IsCutOff n) (sym same) cut)
+ended_noted n text [] None new cut same = inr (subst (JournalEnds n) (sym same) cut)
 ended_noted n text [] (Some newly_enrolled) new cut h = absurd h.1
 ended_noted n text (x ∷ xs) last new cut h = absurd h.3.newly_enrolled
 
@@ -95,7 +93,7 @@ then_noted (Some (Ended text)) mid new xs last first then =
 then_noted (Some (Open n)) mid new xs last (inl same) then = subst (λ r. AreNoted r xs last new) same then
 then_noted (Some (Open n)) mid new xs last (inr cut) then =
     ended_noted n (with_request (with_news n cut.newly_enrolled) cut.moment cut.request).text xs last new
-    (subst (IsCutOff n) cut.ended cut) (subst (λ r. AreNoted r xs last new) cut.ended then)
+    (subst (JournalEnds n) cut.ended cut) (subst (λ r. AreNoted r xs last new) cut.ended then)
 
 not_failed : (r mid new : Option Recorded) (Fails : Type 0) → ¬ Fails
     → IfSome r (λ recorded. Fails → mid ≡ r) → IfSome r (λ recorded. Fails → new ≡ r)

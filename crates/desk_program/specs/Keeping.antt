@@ -1,27 +1,47 @@
--- Keeping: the crash states, which are what the next start may find of a desk's content (`found`), however
--- the program ended.
-use Rattle.std.specs.Prelude.{◌≡◌, ◌⊎◌, ◌+◌, ⊤, ℕ, List, [], ◌∷◌, take, Option, Some, Result, Ok, Err}
+-- What a command leaves: its effects outside, and the crash states that the next start may find.
+use Rattle.std.specs.Prelude.{ℕ, List, Option, ◌≡◌, ◌⊎◌, ◌+◌, ⊤, [], ◌∷◌, take, Some, Result, Ok, Err, Bool, None}
+use Rattle.std.specs.declared.io.Read as read
+use Rattle.std.specs.declared.io.Write as write
 use Rattle.std.specs.Option.{IsSomeAnd}
 use Rattle.desk_store.specs.declared.store.PlanStore.{Ghosts}
-use Rattle.desk_store.specs.StoreFaults.{IsHonest}
-use Rattle.desk_store.specs.World.{World}
-use Rattle.desk_run.specs.DeskWorld.{DeskWorld, Parts, enrolled, world_of}
-use Rattle.desk_wire.specs.Given.{reported_in_play}
-use Rattle.desk_wire.specs.RequestsKept.{IsCertain, IsKept, IsLeftBy}
-use Rattle.desk_wire.specs.Passage.{Course, Passage}
-use Rattle.desk_wire.specs.OneRequest.{HasServed, IsTaken}
-use Rattle.desk_cli.specs.declared.failure.ErrorCode.{ErrorCode}
-use Rattle.desk_cli.specs.declared.line.Enrolment.{Enrolment}
-use Rattle.desk_cli.specs.declared.line.Line.{Line}
+use Rattle.desk_store.specs.{Changes.IsHonest, Changes.Remembers, World.World}
+use Rattle.desk_run.specs.{Verdicts.DeskWorld, Verdicts.Parts, Verdicts.enrolled, Verdicts.world_of, Calls.FindsOnly}
+use Rattle.desk_wire.specs.{Streams.Course, Streams.Passage, Streams.course, Streams.passage, Streams.HasServed, Streams.IsTaken, Given.reported_in_play, Given.IsCertain, Given.IsKept, Given.IsLeftBy}
+use Rattle.desk_cli.specs.declared.{failure.ExitReport.ExitReport, failure.ErrorCode.ErrorCode, line.Enrolment.Enrolment, line.Line.Line, line.PlayArgs.PlayArgs, line.ServeArgs.ServeArgs}
+use Rattle.desk_cli.specs.{Exits.Ending, Exits.ending, Exits.EndsWith, Exits.IsBrokenDown, Exits.FailsWith, Lines.IsEnrol, Lines.IsPlay}
 use Rattle.desk_cli.specs.declared.line.Line.TheVariants as line
-use Rattle.desk_cli.specs.declared.line.PlayArgs.{PlayArgs}
-use Rattle.desk_cli.specs.declared.line.ServeArgs.{ServeArgs}
-use Rattle.desk_cli.specs.Exits.{Ending, EndsWith, IsBrokenDown}
-use Rattle.desk_program.specs.Enrolling.{AreEnrolledSoFar, on_terms, with_operators}
-use Rattle.desk_program.specs.Outside.{Outside}
-use Rattle.desk_program.specs.PlayLines.{IsNotPlayed, IsPlayed}
-use Rattle.desk_program.specs.Serving.{AreTaken, Exchange, HasBegunServing, IsNotBegun, Traffic, passage_of}
+use Rattle.desk_program.specs.declared.running.Streams.{Streams}
+use Rattle.desk_program.specs.{Serving.Traffic, Serving.unreported, Serving.AreTaken, Serving.Exchange, Serving.HasBegunServing, Serving.IsNotBegun, Serving.passage_of, Serving.IsLineServed, Enrolling.AreEnrolledSoFar, Enrolling.on_terms, Enrolling.with_operators, Enrolling.IsNotPlayed, Enrolling.IsPlayed, Enrolling.HasCause, Enrolling.IsEnrolled, Enrolling.IsPlayDone}
 
+-- the bytes of the streams; what the port reported before and reports after; the end
+pub record Outside : Type 0 where
+  pub bytes : Passage
+  pub port : Course Traffic
+  pub end : Ending
+
+-- the bytes that a writer held before and holds after, if they are known
+abbrev pub bytes_written : {W : Type 0} → write.Ghosts W → W → W → Course (Option (List ℕ))
+bytes_written w before after = course (w.contents before) (w.contents after)
+
+-- how a command ended, by its exit report and its error writer
+abbrev pub ended : {E : Type 0} → write.Ghosts E → ExitReport E → E → E → Ending
+ended e exit before now = ending exit (e.contents before) (e.contents now)
+
+-- the streams and the port of a command, before and after it, and how it ended
+abbrev pub outside :
+    {R W E : Type 0} → read.Ghosts R → write.Ghosts W → write.Ghosts E → Streams R W E → Streams R W E
+    → Course Traffic → ExitReport E → Outside
+outside r w e old new port exit = record {
+  bytes = passage r w old.input new.input old.output new.output;
+  port = port;
+  end = ended e exit old.errors new.errors;
+}
+
+-- the same of a command without a port
+abbrev pub streamed : Passage → Ending → Outside
+streamed bytes end = record { bytes = bytes; port = course unreported unreported; end = end }
+
+-- ==== Crash states: what the next start may find of a desk's content (`found`), however the program ended
 -- the first operators are enrolled, and not all; the next start finds these, or these and the next one
 pub record AreKeptSoFar (H : Type 0) (es : List Enrolment) (w after : DeskWorld) (found : Option World) :
     Type 0 where
@@ -47,14 +67,12 @@ FindsNewEnrolments (Err fault) es w after before now = (found : Option World) �
     → AreKeptSoFar ⊤ es w after found ⊎ ((after ≡ w) × before found)
 
 -- the next start finds the operator enrolled; or it finds what was there before, and nothing was printed
-abbrev pub FindsEnrolled :
-    Enrolment → Ending → Course (Option (List ℕ)) → DeskWorld → Option World → Type 0
+abbrev pub FindsEnrolled : Enrolment → Ending → Course (Option (List ℕ)) → DeskWorld → Option World → Type 0
 FindsEnrolled e end writes w found = (found ≡ Some (enrolled w e.operator e.ceiling).content)
     ⊎ (IsBrokenDown end × (writes.after ≡ writes.before) × (found ≡ Some w.content))
 
 -- the next start finds what the requests of the input left; or an operator could not be enrolled
-abbrev pub IsPlayKept :
-    Type 0 → PlayArgs → Ending → Passage → DeskWorld → DeskWorld → Option World → Type 0
+abbrev pub IsPlayKept : Type 0 → PlayArgs → Ending → Passage → DeskWorld → DeskWorld → Option World → Type 0
 IsPlayKept H play end p w after found =
     ((run : IsPlayed H play end p w after)
     × IsKept run.ended (reported_in_play run.ended run.answered) p
@@ -97,7 +115,6 @@ pub record AreKept {A S : Type 0} (g : Ghosts S) (done : Result A ErrorCode) (co
       ⊎ ((world_of g.content new ≡ world_of g.content old) × g.may_leave old.store found)
 
 -- what the next start finds if connections are taken once all operators are enrolled, or if one could not be
--- enrolled
 abbrev pub IsPortKept :
     {A : Type 0} → Type 0 → Result A ErrorCode → ServeArgs → Course Traffic → DeskWorld → DeskWorld
     → Option World → Type 0
@@ -120,3 +137,51 @@ IsLineKept H (line.Play play) o w after found = IsPlayKept H play o.end o.bytes 
 IsLineKept H (line.Enrol enrol) o w after found = FindsEnrolled enrol.enrolment o.end o.bytes.writes w found
 IsLineKept H (line.Serve serve) o w after found = IsServeKept H serve o.end o.port w after found
 IsLineKept H _ o w after found = ⊥
+
+-- ==== What comes of a command that is run at a desk
+-- what a command does. `play` and `enrol` take no connection; `serve` and `enrol` read no input
+abbrev pub IsCarriedOut : Type 0 → Line → Outside → DeskWorld → DeskWorld → Type 0
+IsCarriedOut H (line.Play play) o w after =
+    (o.port.after ≡ o.port.before) × IsPlayDone H play o.end o.bytes w after
+IsCarriedOut H (line.Serve serve) o w after =
+    (o.bytes.reads.after ≡ o.bytes.reads.before)
+    × IsLineServed H serve o.end o.port o.bytes.writes w after
+IsCarriedOut H (line.Enrol enrol) o w after =
+    (o.port.after ≡ o.port.before) × (o.bytes.reads.after ≡ o.bytes.reads.before)
+    × IsEnrolled H enrol.enrolment o.end o.bytes.writes w after
+IsCarriedOut H _ o w after = ⊥
+
+-- a command is run at a desk: what it does (`done`), what the next start may find (`kept`), and, if it ended
+-- with the error code `store`, that the store counted a fault (`cause`)
+pub record CarriesOut {S : Type 0} (g : Ghosts S) (line : Line) (o : Outside) (old new : Parts S) : Type 0
+  where
+    pub done : IsCarriedOut (IsHonest (g.doubt new.store)) line o (world_of g.content old)
+        (world_of g.content new)
+    pub kept : FindsOnly g old new (IsLineKept (IsHonest (g.doubt new.store)) line o
+        (world_of g.content old) (world_of g.content new))
+    pub cause : HasCause g old new o.end
+    pub remembered : Remembers g.doubt g.faults g.is_shielded old.store new.store
+
+-- a command is `play` or `enrol`, which take no connection, and its numbers are in range
+abbrev pub IsPortless : Line → Type 0
+IsPortless (line.Play play) = IsPlay play
+IsPortless (line.Enrol enrol) = IsEnrol enrol
+IsPortless _ = ⊥
+
+-- a command without a port is run at a desk, and ends with this status. Whether the line with its error code
+-- was cut off (`cut`) isn't returned
+pub record EndsWithStatus {S : Type 0} (g : Ghosts S) (line : Line) (status : ℕ) (bytes : Passage)
+    (errors : Course (Option (List ℕ))) (old new : Parts S) : Type 0 where
+  pub cut : Bool
+  pub carried : CarriesOut g line (streamed bytes (record {
+    status = status;
+    cut = cut;
+    before = errors.before;
+    now = errors.after;
+  })) old new
+
+-- no desk was opened: the command ends with that failure, and returns no desk; no connection is taken, and
+-- nothing is read or written
+abbrev pub IsUnopened : {S : Type 0} → Outside → Option S → ErrorCode → Type 0
+IsUnopened o left failure = FailsWith failure o.end × (left ≡ None) × (o.port.after ≡ o.port.before)
+    × (o.bytes.reads.after ≡ o.bytes.reads.before) × (o.bytes.writes.after ≡ o.bytes.writes.before)

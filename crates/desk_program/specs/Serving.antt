@@ -1,32 +1,44 @@
--- Serving: what a desk at a port prints, and what its connections leave.
-use Rattle.std.specs.Prelude.{◌≡◌, ◌≢◌, ◌≤◌, ◌⊎◌, ⊤, ℕ, ℤ, Bool, true, false, List, [], ◌∷◌, ◌++◌, All, map, length, codes, decimal, Option, Some, None, IfSome, option_to_list, Result, Ok, Err, OnOk}
+-- What a desk at a port prints, and what its connections leave.
+use Rattle.std.specs.Prelude.{ℕ, ◌+◌, ◌*◌, ◌/◌, ℤ, pos, int_le, Option, Some, None, if◌then◌else◌, ◌≡◌, ◌≢◌, ◌≤◌, ◌⊎◌, ⊤, Bool, true, false, List, [], ◌∷◌, ◌++◌, All, map, length, codes, decimal, IfSome, option_to_list, Result, Ok, Err, OnOk}
 use Rattle.std.specs.Result.{IsErrAnd}
-use Rattle.desk_run.specs.DeskWorld.{DeskWorld}
-use Rattle.io_ends.specs.declared.serving.Served.{Served}
-use Rattle.io_ends.specs.declared.serving.Served.TheVariants.{Answered, End}
-use Rattle.io_ends.specs.declared.serving.ServeFault.{ServeFault}
-use Rattle.desk_wire.specs.Passage.{Course, Passage, course, passed}
-use Rattle.desk_wire.specs.OneRequest.{HasServed}
-use Rattle.desk_cli.specs.declared.failure.ErrorCode.{ErrorCode}
-use Rattle.desk_cli.specs.declared.line.ServeArgs.{ServeArgs}
+use Rattle.volume4d.specs.VolumeLimits.{max_second}
+use Rattle.desk_run.specs.Verdicts.{DeskWorld}
+use Rattle.io_ends.specs.declared.serving.{Served.Served, Served.TheVariants.Answered, Served.TheVariants.End, ServeFault.ServeFault}
+use Rattle.desk_wire.specs.Streams.{Course, Passage, course, passed, HasServed}
+use Rattle.desk_cli.specs.declared.{failure.ErrorCode.ErrorCode, line.ServeArgs.ServeArgs, line.Enrolment.Enrolment}
 use Rattle.desk_cli.specs.declared.failure.ErrorCode.TheVariants as failure
 use Rattle.desk_cli.specs.Exits.{Ending, EndsWith, IsAnnounced, IsLineBreakdown, failure_at}
-use Rattle.desk_cli.specs.declared.line.Enrolment.{Enrolment}
 use Rattle.desk_program.specs.declared.port.ExchangeEnd.{ExchangeEnd}
-use Rattle.desk_program.specs.Enrolling.{AreEnrolled, AreEnrolledSoFar, on_terms, with_operators}
-use Rattle.desk_program.specs.Recorded.{IsOpen, Recorded, RecordsAnswer, RecordsEnrolments, RecordsNone, RecordsRequest}
+use Rattle.desk_program.specs.Enrolling.{AreEnrolled, AreEnrolledSoFar, on_terms, with_operators, IsOpen, Recorded, RecordsAnswer, RecordsEnrolments, RecordsNone, RecordsRequest}
 
+-- a second, in nanoseconds
+abbrev pub second : ℕ
+second = 1_000_000_000
+
+-- how long a client has to send its request, and how long to take the answer, in nanoseconds
+abbrev pub patience : ℕ
+patience = 10 * second
+
+-- the deadline that all reads of a connection have together, or all its writes: the one that was set, or, at
+-- the first read or write, one that is `patience` after now. All times are in nanoseconds
+abbrev pub patience_end : Option ℕ → ℕ → ℕ
+patience_end None now = now + patience
+patience_end (Some last) now = last
+
+-- the moment so many nanoseconds after 1970, in whole seconds, rounded down; None if it is out of range
+abbrev pub moment_at : ℕ → Option ℤ
+moment_at nanos = if int_le (pos (nanos / second)) max_second then Some (pos (nanos / second)) else None
+
+-- ==== What a desk at a port prints, and what its connections leave
 -- the line that says that the port is open
 abbrev pub listening_line : ℕ → List ℕ
 listening_line port = codes "listening 127.0.0.1:" ++ (decimal port ++ codes "\n")
 
 -- the line that reports why the port can't be opened
 abbrev pub port_line : ℕ → List ℕ → List ℕ
-port_line port cause =
-    codes "uss_desk: 127.0.0.1:" ++ (decimal port ++ (codes ": " ++ (cause ++ codes "\n")))
+port_line port cause = codes "uss_desk: 127.0.0.1:" ++ (decimal port ++ (codes ": " ++ (cause ++ codes "\n")))
 
--- a connection as it is taken: the moment of the clock, and the bytes that come from the client, if they are
--- known
+-- a connection as it is taken: the clock's moment, and the bytes that come from the client, if they are known
 pub record Arrival : Type 0 where
   pub moment : ℤ
   pub bytes : Option (List ℕ)
@@ -195,8 +207,7 @@ abbrev pub EndsAtEnrolments : Type 0 → ErrorCode → List Enrolment → DeskWo
 EndsAtEnrolments H f newly_enrolled w after =
     (IsLineBreakdown f × AreEnrolledSoFar H newly_enrolled w after) ⊎ (IsPortError f × AreEnrolled H newly_enrolled w after)
 
--- new enrolments after the last connection, if there are any: the desk ended there, and they are made as far
--- as they could be
+-- new enrolments after the last connection, if any: the desk ended there, and they are made as far as can be
 abbrev pub IsLastEnrolments :
     {A : Type 0} → Type 0 → Option (List Enrolment) → Result A ErrorCode → DeskWorld → DeskWorld → Type 0
 IsLastEnrolments H None done w after = after ≡ w

@@ -1,13 +1,9 @@
 //! A TCP port of 127.0.0.1, whose connections get their timestamps from the clock.
 
 ghost use Rattle.std.specs.Prelude.{◌≡◌, ◌≢◌, None, Some, Err, Ok, IfErr, IfOk, IsSome, OnOk, codes, option_map, string_bytes};
-ghost use Rattle.std.specs.IoError.{error_kind};
-ghost use Rattle.std.specs.Result.{is_ok};
-ghost use Rattle.std.specs.Time.{system_time_nanos};
-ghost use Rattle.desk_program.specs.Enrolling.{IsWrittenAsFarAsPossible};
+ghost use Rattle.std.specs.{IoError.error_kind, Result.is_ok, Time.system_time_nanos};
+ghost use Rattle.desk_program.specs.{Enrolling.IsWrittenAsFarAsPossible, Serving.IsPortError, Serving.Listens, Serving.unreported, Serving.moment_at};
 ghost use Rattle.desk_program.specs.Serving as spec;
-ghost use Rattle.desk_program.specs.Serving.{IsPortError, Listens, unreported};
-ghost use Rattle.desk_program.specs.Waiting.{moment_at};
 
 use crate::port::{ClientStream, EnrolmentSource, ExchangeEnd, Port};
 use crate::timed::{DeadlineStream, discard_extra, discard_rest};

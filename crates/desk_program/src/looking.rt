@@ -2,8 +2,8 @@
 
 ghost use Rattle.std.specs.Prelude.{◌≡◌, ℕ, IfOk, List, codes, if◌then◌else◌, string_bytes};
 ghost use Rattle.desk_cli.specs.Exits.{ending};
-ghost use Rattle.desk_program.specs.Looking as spec;
-ghost use Rattle.desk_program.specs.Looking.{IsTextPrinted};
+ghost use Rattle.desk_program.specs.Enrolling as spec;
+ghost use Rattle.desk_program.specs.Enrolling.{IsTextPrinted};
 
 use desk_cli::{ErrorCode, ExitReport, report_exit};
 use io_ends::write_whole;
@@ -101,7 +101,7 @@ fn checked_text(alloc: Global, file: &CheckedFile) -> Result<String, AllocError>
 }
 
 // The first part: the schema, whether pages have checksums, and the number of operators.
-#[tactic(auto, unfolding(crate::specs::Looking::tables_text))]
+#[tactic(auto, unfolding(crate::specs::Enrolling::tables_text))]
 fn tables_text(alloc: Global, file: &CheckedFile) -> Result<String, AllocError>
     ensures { IfOk result (λ text. string_bytes text ≡ spec.tables_text file.now) }
 {
@@ -112,7 +112,7 @@ fn tables_text(alloc: Global, file: &CheckedFile) -> Result<String, AllocError>
 }
 
 // The second part: the numbers of plans, live plans and rows of spans.
-#[tactic(auto, unfolding(crate::specs::Looking::plans_text))]
+#[tactic(auto, unfolding(crate::specs::Enrolling::plans_text))]
 fn plans_text(alloc: Global, file: &CheckedFile) -> Result<String, AllocError>
     ensures { IfOk result (λ text. string_bytes text ≡ spec.plans_text file.now) }
 {
@@ -137,7 +137,7 @@ fn yes_or_no(is_so: bool) -> &'static str
 }
 
 // The third part: the sizes of the file and its WAL in megabytes, rounded down to one decimal.
-#[tactic(auto, unfolding(crate::specs::Looking::sizes_text))]
+#[tactic(auto, unfolding(crate::specs::Enrolling::sizes_text))]
 fn sizes_text(alloc: Global, file: &CheckedFile) -> Result<String, AllocError>
     ensures { IfOk result (λ text. string_bytes text ≡ spec.sizes_text file.now) }
 {
@@ -151,7 +151,7 @@ fn sizes_text(alloc: Global, file: &CheckedFile) -> Result<String, AllocError>
 }
 
 // The last part: the most rows of spans of one operator, and the most cells of one.
-#[tactic(auto, unfolding(crate::specs::Looking::most_text))]
+#[tactic(auto, unfolding(crate::specs::Enrolling::most_text))]
 fn most_text(alloc: Global, file: &CheckedFile) -> Result<String, AllocError>
     ensures { IfOk result (λ text. string_bytes text ≡ spec.most_text file.now) }
 {
@@ -163,7 +163,7 @@ fn most_text(alloc: Global, file: &CheckedFile) -> Result<String, AllocError>
 }
 
 // The line of `copy`: how many operators and plans were copied.
-#[tactic(auto, unfolding(crate::specs::Looking::copied_line))]
+#[tactic(auto, unfolding(crate::specs::Enrolling::copied_line))]
 fn copied_text(alloc: Global, operators: usize, plans: usize) -> Result<String, AllocError>
     ensures { IfOk result (λ text. string_bytes text ≡ spec.copied_line operators plans) }
 {

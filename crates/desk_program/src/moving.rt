@@ -2,8 +2,8 @@
 
 ghost use Rattle.std.specs.Prelude.{◌≡◌, IfOk, string_bytes};
 ghost use Rattle.desk_cli.specs.Exits.{ending};
-ghost use Rattle.desk_program.specs.MovedLine as spec;
-ghost use Rattle.desk_program.specs.MovedLine.{IsCountPrinted};
+ghost use Rattle.desk_program.specs.Enrolling as spec;
+ghost use Rattle.desk_program.specs.Enrolling.{IsCountPrinted};
 
 use crate::looking::print_line;
 use desk_cli::ExitReport;
@@ -25,7 +25,7 @@ pub fn print_migrated<W: Write, E: Write>(
 }
 
 // The line of `migrate`: `count` is the number of plans.
-#[tactic(auto, unfolding(crate::specs::MovedLine::migrated_line))]
+#[tactic(auto, unfolding(crate::specs::Enrolling::migrated_line))]
 fn migrated_text(alloc: Global, count: u32) -> Result<String, AllocError>
     ensures { IfOk result (λ text. string_bytes text ≡ spec.migrated_line count) }
 {

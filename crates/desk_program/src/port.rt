@@ -3,10 +3,8 @@
 ghost use Rattle.std.specs.Prelude.{◌≡◌, IfOk, IfErr, OnOk, OnErr};
 ghost use Rattle.std.specs.Result.{is_ok};
 ghost use Rattle.desk_cli.specs.Lines.{AreEnrolments};
-ghost use Rattle.desk_program.specs.Recorded.{IsOpen};
-ghost use Rattle.desk_program.specs.Serving.{BringsEnrolments, Closes, AddsNothingNew, IsPortError, IsFresh, Listens};
-ghost use Rattle.desk_program.specs.Serving.{TakesArrival, Traffic};
-ghost use Rattle.desk_program.specs.Serving.{arrived, parted, unreported};
+ghost use Rattle.desk_program.specs.Enrolling.{IsOpen};
+ghost use Rattle.desk_program.specs.Serving.{BringsEnrolments, Closes, AddsNothingNew, IsPortError, IsFresh, Listens, TakesArrival, Traffic, arrived, parted, unreported};
 
 use desk_cli::{Enrolment, ErrorCode};
 use io_ends::Moment;

@@ -1,21 +1,15 @@
 //! The commands `play` and `enrol` at an open desk, and the enrolments of all commands.
 
 ghost use Rattle.std.specs.Prelude.{◌≡◌, ◌≤◌, IfErr, IfOk, string_bytes};
-ghost use Rattle.desk_run.specs.DeskFrames.{FindsOnly};
-ghost use Rattle.desk_run.specs.DeskWorld.{world_of};
-ghost use Rattle.desk_run.specs.CallFaults.{IsBreakdown, IsStoreFaultCounted};
-ghost use Rattle.desk_store.specs.StoreFrames.{Remembers};
-ghost use Rattle.desk_store.specs.StoreFaults.{IsHonest};
-ghost use Rattle.desk_wire.specs.Passage.{passage};
+ghost use Rattle.desk_run.specs.{Calls.FindsOnly, Calls.IsBreakdown, Calls.IsStoreFaultCounted, Verdicts.world_of};
+ghost use Rattle.desk_store.specs.Changes.{Remembers, IsHonest};
+ghost use Rattle.desk_wire.specs.Streams.{passage};
 ghost use Rattle.desk_cli.specs.Exits as spec;
 ghost use Rattle.desk_rules.specs.Limits.{max_priority};
 ghost use Rattle.desk_cli.specs.Lines.{AreEnrolments, IsPlay};
-ghost use Rattle.desk_program.specs.EndCauses.{HasCause};
+ghost use Rattle.desk_program.specs.Enrolling.{HasCause, HasEnrolled, HasEnrolledNew, on_terms, IsEnrolled, IsPlayDone, done_unless};
 ghost use Rattle.desk_program.specs.Enrolling as enrolling;
-ghost use Rattle.desk_program.specs.Enrolling.{HasEnrolled, HasEnrolledNew, on_terms};
-ghost use Rattle.desk_program.specs.Keeping.{FindsEnrolled, FindsEnrolments, FindsNewEnrolments, IsPlayKept};
-ghost use Rattle.desk_program.specs.Outside.{bytes_written, ended};
-ghost use Rattle.desk_program.specs.PlayLines.{IsEnrolled, IsPlayDone, done_unless};
+ghost use Rattle.desk_program.specs.Keeping.{FindsEnrolled, FindsEnrolments, FindsNewEnrolments, IsPlayKept, bytes_written, ended};
 
 use desk_cli::{Enrolment, ErrorCode, ExitReport, PlayArgs, report_exit};
 use desk_rules::terms::Terms;

@@ -3,9 +3,8 @@
 ghost use Rattle.std.specs.Prelude.{IfErr, IfOk};
 ghost use Rattle.std.specs.Option.{IsSomeAnd};
 ghost use Rattle.desk_cli.specs.Lines.{IsLine, line_of};
-ghost use Rattle.desk_wire.specs.Passage.{course, passage};
-ghost use Rattle.desk_program.specs.Outside.{bytes_written, ended, outside, streamed};
-ghost use Rattle.desk_program.specs.CarryingOut.{CarriesOut, EndsWithStatus, IsPortless, IsUnopened};
+ghost use Rattle.desk_wire.specs.Streams.{course, passage};
+ghost use Rattle.desk_program.specs.Keeping.{bytes_written, ended, outside, streamed, CarriesOut, EndsWithStatus, IsPortless, IsUnopened};
 
 use crate::port::Port;
 use crate::program::{enrol, play};

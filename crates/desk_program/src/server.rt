@@ -2,21 +2,13 @@
 
 ghost use Rattle.std.specs.Prelude.{◌≡◌, ◌≤◌, IfOk, IfErr, OnOk, string_bytes};
 ghost use Rattle.std.specs.Io.KnownBytes.{Appends};
-ghost use Rattle.desk_store.specs.StoreFrames.{Remembers};
-ghost use Rattle.desk_store.specs.StoreFaults.{IsHonest};
-ghost use Rattle.desk_cli.specs.Exits.{IsAnnounced, failure_at};
-ghost use Rattle.desk_cli.specs.Lines.{IsPlay, IsServe};
-ghost use Rattle.desk_cli.specs.Written.{IsPartlyWritten};
-ghost use Rattle.desk_run.specs.DeskFrames.{FindsOnly};
-ghost use Rattle.desk_run.specs.DeskWorld.{world_of};
-ghost use Rattle.desk_wire.specs.Passage.{course};
-ghost use Rattle.desk_program.specs.EndCauses.{HasCause, IsEndCounted};
-ghost use Rattle.desk_program.specs.PortPlays.{IsInputKept, IsInputPlayed};
-ghost use Rattle.desk_program.specs.Keeping.{AreKept, IsPortKept, IsServeKept};
-ghost use Rattle.desk_program.specs.Outside.{bytes_written, ended};
+ghost use Rattle.desk_store.specs.Changes.{Remembers, IsHonest};
+ghost use Rattle.desk_cli.specs.{Exits.IsAnnounced, Exits.failure_at, Exits.IsPartlyWritten, Lines.IsPlay, Lines.IsServe};
+ghost use Rattle.desk_run.specs.{Calls.FindsOnly, Verdicts.world_of};
+ghost use Rattle.desk_wire.specs.Streams.{course};
+ghost use Rattle.desk_program.specs.{Enrolling.HasCause, Enrolling.IsEndCounted, PortGiven.IsInputKept, PortGiven.IsInputPlayed, Keeping.AreKept, Keeping.IsPortKept, Keeping.IsServeKept, Keeping.bytes_written, Keeping.ended};
 ghost use Rattle.desk_program.specs.Serving as spec;
-ghost use Rattle.desk_program.specs.Serving.{IsAskedToListen, IsAtPort, IsPortError, IsLineServed, error_in};
-ghost use Rattle.desk_program.specs.Serving.{PrintsIfListening, first_failure, listening_line};
+ghost use Rattle.desk_program.specs.Serving.{IsAskedToListen, IsAtPort, IsPortError, IsLineServed, error_in, PrintsIfListening, first_failure, listening_line};
 
 use crate::port::{ClientStream, ExchangeEnd, Port};
 use crate::program::{enrol_new, set_up};

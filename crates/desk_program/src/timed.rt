@@ -1,11 +1,8 @@
 //! Reads and writes with deadlines, so that a client that stalls doesn't block the desk.
 
 ghost use Rattle.std.specs.Prelude.{◌≡◌, ◌+◌, ◌≤◌, None, Some, IfSome, IfOk, IsSomeAnd, option_map};
-ghost use Rattle.std.specs.Duration.{as_nanos};
-ghost use Rattle.std.specs.Io.{ReadsAtMost, WritesAtMost};
-ghost use Rattle.std.specs.Io.KnownBytes.{ReadConsumes, WriteAppends};
-ghost use Rattle.std.specs.Time.{instant_nanos};
-ghost use Rattle.desk_program.specs.Waiting.{patience, patience_end};
+ghost use Rattle.std.specs.{Duration.as_nanos, Io.ReadsAtMost, Io.WritesAtMost, Io.KnownBytes.ReadConsumes, Io.KnownBytes.WriteAppends, Time.instant_nanos};
+ghost use Rattle.desk_program.specs.Serving.{patience, patience_end};
 
 use std::io::{self, ErrorKind, Read, Write};
 use std::net::{OpenStream, Shutdown};

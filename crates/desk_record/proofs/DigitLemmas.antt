@@ -4,8 +4,7 @@ use Rattle.std.specs.Prelude.{option_and_then, nat_lt, ◌&&◌, if◌then◌els
 use Rattle.std.specs.Char.{is_ascii_digit}
 use Rattle.std.proofs.Math.Nat.{pow-suc}
 use Rattle.std.proofs.lemmas.Bool.Decides.{nat_tests}
-use Rattle.desk_record.specs.Record.{digits, number}
-use Rattle.desk_record.specs.EntryLines.{next_digit, number_from}
+use Rattle.desk_record.specs.Record.{digits, number, next_digit, number_from}
 
 pub length_digits : (width n : ℕ) → length (digits width n) ≡ width
 unfolding digits

@@ -3,9 +3,7 @@ use Rattle.std.proofs.Common.{◌≡◌, ◌<◌, inl, inr, ℕ, ◌+◌, List, 
 use Rattle.std.specs.List.{AllByRecursion}
 use Rattle.std.proofs.lemmas.List.{take_at, append_cancel_left, take-take, length-take-le}
 use Rattle.std.proofs.lemmas.Bool.{cases_lt}
-use Rattle.desk_record.specs.Record.{EntryParts, Fits, entries, entry}
-use Rattle.desk_record.specs.EntryLines.{IsEntryLine, parsed_line}
-use Rattle.desk_record.specs.Reading.{IsTooShort}
+use Rattle.desk_record.specs.Record.{EntryParts, Fits, entries, entry, IsEntryLine, parsed_line, IsTooShort}
 use Rattle.desk_record.proofs.LineLemmas.{line_read}
 use Rattle.desk_record.proofs.ReadLemmas.{entry_length, is_its_line, its_bytes, line_is_read, line_of, some_same}
 

@@ -9,8 +9,7 @@ use Rattle.hex.specs.Hex.{lower_digits}
 use Rattle.hex.proofs.HexLemmas.{length-encode_with}
 use Rattle.desk_record.specs.declared.kind.Kind.{Kind}
 use Rattle.desk_record.specs.declared.kind.Kind.TheVariants as kind
-use Rattle.desk_record.specs.Record.{word, number, sum, line_fields, line}
-use Rattle.desk_record.specs.EntryLines.{IsEntryLine, LineParts, kind_of, parsed_line, parsed_line_fields, line_of_parts, number_from}
+use Rattle.desk_record.specs.Record.{word, number, sum, line_fields, line, IsEntryLine, LineParts, kind_of, parsed_line, parsed_line_fields, line_of_parts, number_from}
 use Rattle.desk_record.proofs.DigitLemmas.{length_number, read_number}
 
 pub length_word : (k : Kind) → length (word k) ≡ 9

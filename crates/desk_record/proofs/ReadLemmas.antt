@@ -7,9 +7,7 @@ use Rattle.std.specs.Str.{bytes_eq}
 use Rattle.std.specs.Io.KnownBytes.{Consumes, IsAtEnd}
 use Rattle.std.proofs.lemmas.Slice.Eq.{bytes_eq-Decides}
 use Rattle.std.proofs.lemmas.List.{take_at, drop_at, length-take-le, length-drop, append_cancel_left}
-use Rattle.desk_record.specs.Record.{EntryParts, Fits, entry, line, sum}
-use Rattle.desk_record.specs.EntryLines.{IsEntryLine, LineParts, kind_of, parsed_line, parsed_line_fields, line_of_parts, number_from}
-use Rattle.desk_record.specs.Reading.{IsDamagedRecord, IsTooShort, are_bytes_intact}
+use Rattle.desk_record.specs.Record.{EntryParts, Fits, entry, line, sum, IsEntryLine, LineParts, kind_of, parsed_line, parsed_line_fields, line_of_parts, number_from, IsDamagedRecord, IsTooShort, are_bytes_intact}
 use Rattle.desk_record.proofs.DigitLemmas.{read_fits}
 use Rattle.desk_record.proofs.LineLemmas.{length_line, length_sum, line_read}
 

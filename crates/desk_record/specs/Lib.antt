@@ -1,3 +1,1 @@
-pub mod EntryLines
-pub mod Reading
 pub mod Record

@@ -1,8 +1,7 @@
 //! Entries of the journal.
 
 ghost use Rattle.std.specs.Prelude.{◌≡◌, ◌++◌, IfOk, OnErr, OnOk};
-ghost use Rattle.desk_record.specs.Record.{entry};
-ghost use Rattle.desk_record.specs.Reading.{entry_parts};
+ghost use Rattle.desk_record.specs.Record.{entry, entry_parts};
 
 use crate::kind::Kind;
 use crate::line::{Line, line_text};

@@ -1,8 +1,7 @@
 //! The kinds of journal entries.
 
 ghost use Rattle.std.specs.Prelude.{◌≡◌};
-ghost use Rattle.desk_record.specs.Record.{word};
-ghost use Rattle.desk_record.specs.EntryLines.{kind_of};
+ghost use Rattle.desk_record.specs.Record.{word, kind_of};
 
 /// What a journal entry reports. Each comment says what the entry's number is, and what its bytes are.
 #[derive(Clone, Copy, Debug, PartialEq, Eq)]

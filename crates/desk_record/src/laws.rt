@@ -2,8 +2,7 @@
 
 ghost use Rattle.std.specs.Prelude.{◌≡◌, ◌<◌, ◌+◌, ◌++◌, ℕ, List, length, take};
 ghost use Rattle.std.specs.List.{AllByRecursion};
-ghost use Rattle.desk_record.specs.Reading.{IsTooShort};
-ghost use Rattle.desk_record.specs.Record.{EntryParts, Fits, entries, entry};
+ghost use Rattle.desk_record.specs.Record.{IsTooShort, EntryParts, Fits, entries, entry};
 
 /// The format is unambiguous: if a text begins with an entry, that entry and what follows it are determined.
 /// So `read_entry` reads back the entry that `write_entry` wrote, and leaves what follows it.

@@ -2,8 +2,7 @@
 
 ghost use Rattle.std.specs.Prelude.{◌≡◌, ◌++◌, IfOk, OnOk, length};
 ghost use Rattle.std.specs.Option.{option_map};
-ghost use Rattle.desk_record.specs.Record.{line_fields, line, sum};
-ghost use Rattle.desk_record.specs.EntryLines.{parsed_line, parsed_line_fields, line_of_parts, line_parts};
+ghost use Rattle.desk_record.specs.Record.{line_fields, line, sum, parsed_line, parsed_line_fields, line_of_parts, line_parts};
 
 use crate::kind::{Kind, parse_kind};
 use crate::numbers::{parse_number, write_number};
@@ -64,7 +63,7 @@ fn write_line_fields(text: &mut Vec<u8>, line: &Line) -> Result<(), AllocError>
 /// # Errors
 ///
 /// `AllocError` if memory runs out.
-#[tactic(auto, unfolding(crate::specs::EntryLines::parsed_line))]
+#[tactic(auto, unfolding(crate::specs::Record::parsed_line))]
 pub fn read_line(alloc: Global, bytes: &[u8]) -> Result<Option<Line>, AllocError>
     requires { length bytes.now ≡ 86 }
     ensures { IfOk result (λ found. option_map line_parts found ≡ parsed_line bytes.now) }
@@ -82,7 +81,7 @@ pub fn read_line(alloc: Global, bytes: &[u8]) -> Result<Option<Line>, AllocError
 // Parses the fields of a line by their places: the kind at byte 0, the number at 10, the size at 31 and the
 // entry's checksum at 52. The line's own checksum and its blanks aren't checked here. `None` if the kind or
 // one of the numbers is invalid.
-#[tactic(auto, unfolding(crate::specs::EntryLines::parsed_line_fields))]
+#[tactic(auto, unfolding(crate::specs::Record::parsed_line_fields))]
 fn parse_line_fields(alloc: Global, bytes: &[u8]) -> Result<Option<Line>, AllocError>
     requires { length bytes.now ≡ 86 }
     ensures { IfOk result (λ found. option_map line_parts found ≡ parsed_line_fields bytes.now) }

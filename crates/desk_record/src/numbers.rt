@@ -2,8 +2,7 @@
 
 ghost use Rattle.std.specs.Prelude.{◌≡◌, ◌++◌, OnOk};
 ghost use Rattle.desk_record.specs.Record as record_text;
-ghost use Rattle.desk_record.specs.Record.{digits};
-ghost use Rattle.desk_record.specs.EntryLines.{next_digit, number_from};
+ghost use Rattle.desk_record.specs.Record.{digits, next_digit, number_from};
 
 use std::alloc::AllocError;
 

@@ -1,11 +1,8 @@
 //! Entries read from a stream.
 
 ghost use Rattle.std.specs.Prelude.{◌≡◌, ◌≤◌, ◌<◌, None, length, take, IfErr, IfOk, IfSome};
-ghost use Rattle.std.specs.Io.{ReadsAtMost};
-ghost use Rattle.std.specs.Io.KnownBytes.{Consumes, IsAtEnd};
-ghost use Rattle.desk_record.specs.Record.{Fits, entry};
-ghost use Rattle.desk_record.specs.EntryLines.{line_parts};
-ghost use Rattle.desk_record.specs.Reading.{IsReadFailure, LacksEntry, entry_parts, are_bytes_intact};
+ghost use Rattle.std.specs.{Io.ReadsAtMost, Io.KnownBytes.Consumes, Io.KnownBytes.IsAtEnd};
+ghost use Rattle.desk_record.specs.Record.{Fits, entry, line_parts, IsReadFailure, LacksEntry, entry_parts, are_bytes_intact};
 
 use crate::entry::Entry;
 use crate::line::{LINE_LEN, Line, read_line};

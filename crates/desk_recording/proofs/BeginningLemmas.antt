@@ -5,8 +5,8 @@ use Rattle.desk_rules.specs.declared.terms.Terms.{Terms}
 use Rattle.desk_cli.specs.declared.line.Enrolment.{Enrolment}
 use Rattle.desk_record.specs.Record.{EntryParts, entries, entry}
 use Rattle.desk_record.specs.declared.kind.Kind.TheVariants as kind
-use Rattle.desk_recording.specs.Beginning.{header, limit_entry, permitted_below, permitted_if, record_entry}
-use Rattle.desk_program.specs.Recorded.{operator_entry}
+use Rattle.desk_recording.specs.RecordWrites.{header, limit_entry, permitted_below, permitted_if, record_entry}
+use Rattle.desk_program.specs.Enrolling.{operator_entry}
 
 entries_both : (es more : List EntryParts) → entries (es ++ more) ≡ entries es ++ entries more
 entries_both [] more = refl

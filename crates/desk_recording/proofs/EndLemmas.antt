@@ -3,30 +3,26 @@ use Rattle.std.proofs.Common.{◌≡◌, ◌≢◌, ◌<◌, ◌⊎◌, ◌∙�
 use Rattle.std.specs.Prelude.{⊤}
 use Rattle.std.proofs.lemmas.List.{take-append-drop}
 use Rattle.std.proofs.lemmas.List.Elements.{All-cons, All-head, All-nil, All-tail}
-use Rattle.io_ends.specs.Moments.{IsMoment}
+use Rattle.io_ends.specs.Writing.{IsMoment}
 use Rattle.desk_record.specs.Record.{EntryParts, entries, entry}
-use Rattle.request_parser.specs.Readings.{Reading}
+use Rattle.request_parser.specs.Messages.{Reading}
 use Rattle.request_parser.specs.Requests.{asked}
 use Rattle.desk_rules.specs.declared.call.Asked.{Asked}
 use Rattle.desk_store.specs.World.{World}
-use Rattle.desk_run.specs.DeskWorld.{DeskWorld, enrolled, with_content}
-use Rattle.desk_run.specs.Verdicts.{step}
+use Rattle.desk_run.specs.Verdicts.{DeskWorld, enrolled, with_content, step}
 use Rattle.desk_run.proofs.lemmas.Repeat.{step_again}
 use Rattle.desk_wire.specs.Bytes.{world_after}
-use Rattle.desk_wire.specs.RequestsKept.{IsCertain}
-use Rattle.desk_wire.specs.Passage.{Course, passed}
-use Rattle.desk_wire.specs.OneRequest.{HasServed}
-use Rattle.desk_wire.specs.Streams.{IsRequest, request_len}
+use Rattle.desk_wire.specs.Given.{IsCertain}
+use Rattle.desk_wire.specs.Streams.{Course, passed, HasServed, IsRequest, request_len}
 use Rattle.desk_cli.specs.Exits.{failure_at}
 use Rattle.desk_cli.specs.Lines.{AreEnrolments}
 use Rattle.desk_cli.specs.declared.failure.ErrorCode.{ErrorCode}
 use Rattle.desk_cli.specs.declared.line.Enrolment.{Enrolment}
-use Rattle.desk_program.specs.Enrolling.{AreEnrolled, with_operators}
+use Rattle.desk_program.specs.Enrolling.{AreEnrolled, with_operators, AreNamed, Ended, IsAnswerRecorded, IsRecorded, Noted, Open, Recorded, RecordsAnswer, RecordsNone, RecordsRequest, answer_entry, operator_entry, request_entry, with_answer, with_news, with_request}
 use Rattle.desk_program.specs.Keeping.{IsFoundServed, IsLeftByNews, IsLeftUncertain}
-use Rattle.desk_program.specs.Recorded.{AreNamed, Ended, IsAnswerRecorded, IsRecorded, Noted, Open, Recorded, RecordsAnswer, RecordsNone, RecordsRequest, answer_entry, operator_entry, request_entry, with_answer, with_news, with_request}
 use Rattle.desk_program.specs.Serving.{AreNoted, AreServed, AreTaken, EndsAfter, EndsDeskBy, Exchange, IsLastEnrolments, Traffic, outcome_of, passage_of}
 use Rattle.desk_replay.specs.Replaying.{State, played, taken}
-use Rattle.desk_recording.specs.Played.{AddsPlayed, CatchesUp, EndsAs, EndsFound, EndsPlayed, IsPlayedTo, IsUnanswered, caught_up, entries_of, known, pair_of}
+use Rattle.desk_recording.specs.Inputs.{AddsPlayed, CatchesUp, EndsAs, EndsFound, EndsPlayed, IsPlayedTo, IsUnanswered, caught_up, entries_of, known, pair_of}
 use Rattle.desk_recording.proofs.ExchangeLemmas.{IsGivenUp, IsLeft, are_asked, is_certain, left_next, is_given_up, is_left, low_second, same_second, some_failure}
 use Rattle.desk_recording.proofs.PlayedLemmas.{asked_of, entries_then, failure_taken, is_asked, news_played, played_one, played_then}
 use Rattle.desk_recording.proofs.RecordLemmas.{all_enrolled, both_played, news_added, pair_added, served_known, reported_whole}

@@ -3,26 +3,21 @@ use Rattle.std.proofs.Common.{◌≡◌, ◌≢◌, ◌≤◌, ◌<◌, ◌⊎�
 use Rattle.std.proofs.lemmas.Bool.Decides.{nat_tests}
 use Rattle.std.proofs.lemmas.Int.{ints}
 use Rattle.std.proofs.lemmas.List.{length-append}
-use Rattle.io_ends.specs.Moments.{IsMoment}
+use Rattle.io_ends.specs.Writing.{IsMoment}
 use Rattle.io_ends.specs.declared.serving.Served.{Served}
 use Rattle.io_ends.specs.declared.serving.Served.TheVariants.{Answered, End}
 use Rattle.io_ends.specs.declared.serving.ServeFault.{ServeFault}
 use Rattle.io_ends.specs.declared.serving.ServeFault.TheVariants.{CutShort, OutOfMemory, Read, Write}
-use Rattle.request_parser.specs.Framing.{head_len}
-use Rattle.request_parser.specs.Readings.{Reading}
+use Rattle.request_parser.specs.Heads.{head_len}
+use Rattle.request_parser.specs.Messages.{Reading}
 use Rattle.request_parser.specs.Requests.{asked}
 use Rattle.desk_rules.specs.declared.call.Asked.{Asked}
 use Rattle.desk_store.specs.World.{World}
-use Rattle.desk_run.specs.DeskWorld.{DeskWorld}
-use Rattle.desk_run.specs.Verdicts.{Reported, no_such_plan, replied, reported_to, unknown_operator}
-use Rattle.desk_writing.specs.Answer.{answer_text, error_text, json_answer}
-use Rattle.desk_writing.specs.ReplyText.{reply_text}
-use Rattle.desk_wire.specs.Bytes.{IsAnsweredSo, IsServerError, status_or_500, text, text_for, world_after}
-use Rattle.desk_wire.specs.RequestsKept.{IsCertain}
-use Rattle.desk_wire.specs.Passage.{passed}
-use Rattle.desk_wire.specs.RefusalTexts.{refusal_text, server_error_text}
-use Rattle.desk_wire.specs.OneRequest.{HasServed, IsReplied, IsTaken}
-use Rattle.desk_wire.specs.Streams.{IsRequest, front_within, request_len}
+use Rattle.desk_run.specs.Verdicts.{DeskWorld, Reported, no_such_plan, replied, reported_to, unknown_operator}
+use Rattle.desk_writing.specs.ReplyText.{answer_text, error_text, json_answer, reply_text}
+use Rattle.desk_wire.specs.Bytes.{IsAnsweredSo, IsServerError, status_or_500, text, text_for, world_after, refusal_text, server_error_text}
+use Rattle.desk_wire.specs.Given.{IsCertain}
+use Rattle.desk_wire.specs.Streams.{passed, HasServed, IsReplied, IsTaken, IsRequest, front_within, request_len}
 use Rattle.desk_wire.specs.declared.response.ServerError.{ServerError}
 use Rattle.desk_wire.specs.declared.response.ServerError.TheVariants as given
 use Rattle.desk_cli.specs.declared.failure.ErrorCode.TheVariants as failure

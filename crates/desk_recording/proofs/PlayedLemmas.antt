@@ -5,19 +5,16 @@ use Rattle.std.specs.Str.{bytes_eq}
 use Rattle.std.proofs.lemmas.Bool.Decides.{nat_tests}
 use Rattle.std.proofs.lemmas.List.Elements.{All-head, All-tail}
 use Rattle.std.proofs.lemmas.Slice.Eq.{bytes_eq-Decides}
-use Rattle.desk_rules.specs.Limits.{max_priority}
-use Rattle.desk_rules.specs.Name.{is_operator_name}
+use Rattle.desk_rules.specs.Limits.{max_priority, is_operator_name}
 use Rattle.desk_record.specs.Record.{EntryParts, entries, entry}
 use Rattle.request_parser.specs.Requests.{asked}
-use Rattle.desk_run.specs.DeskWorld.{enrolled}
-use Rattle.desk_wire.specs.Bytes.{makes_change_for, text_for, world_after}
-use Rattle.desk_wire.specs.RefusalTexts.{server_error_text}
+use Rattle.desk_run.specs.Verdicts.{enrolled}
+use Rattle.desk_wire.specs.Bytes.{makes_change_for, text_for, world_after, server_error_text}
 use Rattle.desk_wire.specs.declared.response.ServerError.{ServerError}
 use Rattle.desk_wire.specs.declared.response.ServerError.TheVariants.{OutOfMemory, Store}
 use Rattle.desk_cli.specs.Lines.{AreEnrolments}
 use Rattle.desk_cli.specs.declared.line.Enrolment.{Enrolment}
-use Rattle.desk_program.specs.Enrolling.{with_operators}
-use Rattle.desk_program.specs.Recorded.{AreNamed, answer_entry, operator_entry, request_entry}
+use Rattle.desk_program.specs.Enrolling.{with_operators, AreNamed, answer_entry, operator_entry, request_entry}
 use Rattle.desk_replay.specs.Replaying.{AskingParts, Outcome, State, counted, is_expected_answer, is_failure, last_moment, listed, played, requested, taken, answer_outcome, then_taken, with_change}
 
 ok_same : {A E : Type 0} {x y : A} → ◌≡◌ {A = Result A E} (Ok x) (Ok y) → x ≡ y

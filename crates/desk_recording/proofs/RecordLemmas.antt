@@ -2,22 +2,19 @@
 use Rattle.std.proofs.Common.{◌≡◌, ◌<◌, ◌⊎◌, ◌∙◌, ℕ, ℤ, pos, nat_abs, List, [], ◌∷◌, ◌++◌, All, map, length, true, Option, Some, None, IfSome, Ok, append-nil, append_assoc, ap, inl, inr, refl, subst, sym, arith}
 use Rattle.std.specs.Prelude.{⊤}
 use Rattle.std.proofs.lemmas.List.Elements.{All-head, All-tail}
-use Rattle.io_ends.specs.Moments.{IsMoment}
+use Rattle.io_ends.specs.Writing.{IsMoment}
 use Rattle.desk_record.specs.Record.{EntryParts, entries, entry}
 use Rattle.request_parser.specs.Requests.{asked}
-use Rattle.desk_run.specs.DeskWorld.{DeskWorld}
+use Rattle.desk_run.specs.Verdicts.{DeskWorld}
 use Rattle.desk_wire.specs.Bytes.{text_for, world_after}
-use Rattle.desk_wire.specs.Passage.{Course, passed}
-use Rattle.desk_wire.specs.OneRequest.{HasServed}
-use Rattle.desk_wire.specs.Streams.{IsRequest, request_len}
+use Rattle.desk_wire.specs.Streams.{Course, passed, HasServed, IsRequest, request_len}
 use Rattle.desk_cli.specs.Exits.{failure_at}
 use Rattle.desk_cli.specs.Lines.{AreEnrolments}
 use Rattle.desk_cli.specs.declared.line.Enrolment.{Enrolment}
-use Rattle.desk_program.specs.Enrolling.{AreEnrolled, with_operators}
-use Rattle.desk_program.specs.Recorded.{AreNamed, Ended, IsAnswerRecorded, IsOpen, IsRecorded, Noted, Open, Recorded, RecordsAnswer, RecordsRequest, answer_entry, operator_entry, request_entry, with_answer, with_news, with_request}
+use Rattle.desk_program.specs.Enrolling.{AreEnrolled, with_operators, AreNamed, Ended, IsAnswerRecorded, IsOpen, IsRecorded, Noted, Open, Recorded, RecordsAnswer, RecordsRequest, answer_entry, operator_entry, request_entry, with_answer, with_news, with_request}
 use Rattle.desk_program.specs.Serving.{AreNoted, AreServed, AreTaken, Exchange, IsLastEnrolments, Traffic, is_answered, outcome_of, passage_of}
 use Rattle.desk_replay.specs.Replaying.{State, played}
-use Rattle.desk_recording.specs.Played.{AddsOpen, AddsPlayed, IsPlayedTo, entries_of, known, pair_of}
+use Rattle.desk_recording.specs.Inputs.{AddsOpen, AddsPlayed, IsPlayedTo, entries_of, known, pair_of}
 use Rattle.desk_recording.proofs.ExchangeLemmas.{AreAsked, are_asked, low_second, same_second, some_text}
 use Rattle.desk_recording.proofs.PlayedLemmas.{after, entries_then, news_played, pair_played, played_then}
 

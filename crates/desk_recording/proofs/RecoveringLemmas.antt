@@ -3,11 +3,11 @@ use Rattle.std.proofs.Common.{◌≡◌, ◌≤◌, List, [], ◌∷◌, ◌++�
 use Rattle.std.specs.Prelude.{⊤, OnOk, option_map}
 use Rattle.desk_store.specs.declared.store.PlanStore.{Ghosts}
 use Rattle.desk_store.proofs.lemmas.Fault.{was_honest}
-use Rattle.desk_run.specs.CallFaults as call
-use Rattle.desk_run.specs.DeskFrames.{FindsOnly}
-use Rattle.desk_run.specs.DeskWorld.{DeskWorld, Parts, world_of}
+use Rattle.desk_run.specs.Calls as call
+use Rattle.desk_run.specs.Calls.{FindsOnly}
+use Rattle.desk_run.specs.Verdicts.{DeskWorld, Parts, world_of}
 use Rattle.desk_run.specs.declared.fault.DeskFault.{DeskFault}
-use Rattle.desk_wire.specs.Passage.{Course, course}
+use Rattle.desk_wire.specs.Streams.{Course, course}
 use Rattle.desk_cli.specs.Exits.{IsLineBreakdown, enrolment_failure}
 use Rattle.desk_cli.specs.declared.failure.ErrorCode.{ErrorCode}
 use Rattle.desk_program.specs.Enrolling.{AreEnrolledSoFar, on_terms, with_operators}

@@ -1,17 +1,16 @@
 -- What one step more changes of what a port reports.
 use Rattle.std.proofs.Common.{◌≡◌, ◌<◌, ◌⊎◌, ℕ, ℤ, pos, nat_abs, Bool, true, false, List, [], ◌∷◌, ◌++◌, Option, None, Some, IfSome, length, append-nil, ap, inl, inr, refl, subst, sym, ◌∙◌}
 use Rattle.std.specs.Prelude.{⊤, not, option_map, Result}
-use Rattle.io_ends.specs.Moments.{IsMoment}
+use Rattle.io_ends.specs.Writing.{IsMoment}
 use Rattle.io_ends.specs.declared.writing.WriteError.{WriteError}
 use Rattle.desk_record.specs.Record.{entry}
-use Rattle.desk_wire.specs.Passage.{Course, course}
-use Rattle.desk_wire.specs.Streams.{IsRequest}
+use Rattle.desk_wire.specs.Streams.{Course, course, IsRequest}
 use Rattle.desk_cli.specs.Lines.{AreEnrolments}
 use Rattle.desk_cli.specs.declared.line.Enrolment.{Enrolment}
-use Rattle.desk_program.specs.Recorded.{AreNamed, Ended, IsOpen, Noted, Recorded, RecordsAnswer, RecordsEnrolments, RecordsNone, RecordsRequest, request_entry, with_answer, with_news, with_request}
+use Rattle.desk_program.specs.Enrolling.{AreNamed, Ended, IsOpen, Noted, Recorded, RecordsAnswer, RecordsEnrolments, RecordsNone, RecordsRequest, request_entry, with_answer, with_news, with_request}
 use Rattle.desk_program.specs.Serving.{BringsEnrolments, Closes, AddsNothingNew, Parting, TakesArrival, arrived}
 use Rattle.desk_recording.specs.Recording.{AddsStep, Answered, Asked, Enrolled, HasText, Lost, Notes, NotesOnDisk, SendsKept, Step, arrivals_in, news_in, partings_in, traffic_of}
-use Rattle.desk_recording.specs.Reporting.{recorded_by}
+use Rattle.desk_recording.specs.Inputs.{recorded_by}
 
 news_and : (steps : List Step) (step : Step)
     → news_in (steps ++ step ∷ []) ≡ news_in steps ++ news_in (step ∷ [])

@@ -2,7 +2,7 @@
 use Rattle.std.proofs.Common.{◌≡◌, ◌∙◌, ◌==◌, ℕ, ℤ, nat_abs, length, List, [], ◌∷◌, ◌++◌, Bool, true, false, Option, None, Some, append-nil, append_assoc, ap, inr, refl, subst, sym}
 use Rattle.std.specs.Prelude.{option_map}
 use Rattle.desk_record.specs.Record.{entry}
-use Rattle.desk_program.specs.Recorded.{Noted, request_entry, with_request}
+use Rattle.desk_program.specs.Enrolling.{Noted, request_entry, with_request}
 use Rattle.desk_recording.specs.Recording.{HasText, NotesOnDisk}
 use Rattle.desk_recording.specs.RecordWrites.{Appended, AppendsKnown, Failed, MakesWrite, Synced, Write, appended_in, noted_in, text_in}
 

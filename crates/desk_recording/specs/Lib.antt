@@ -1,9 +1,5 @@
-pub mod Beginning
-pub mod Inputs
-pub mod Played
-pub mod Receiving
 pub mod RecordWrites
+pub mod Inputs
 pub mod Recording
 pub mod Recovering
 pub mod Tail
-pub mod Reporting

@@ -1,10 +1,14 @@
--- RecordWrites: the writes to a journal file.
-use Rattle.std.specs.Prelude.{◌≡◌, ◌⊎◌, ⊤, ℕ, Bool, true, false, List, [], ◌∷◌, ◌++◌, map, Option, None, Some, option_map}
-use Rattle.desk_cli.specs.declared.line.Enrolment.{Enrolment}
+-- The writes to a journal file (docs/journal-format.md), and its first entries.
+use Rattle.std.specs.Prelude.{◌≡◌, ◌⊎◌, ⊤, ℕ, Bool, true, false, List, [], ◌∷◌, ◌++◌, map, Option, None, Some, option_map, zero, suc, option_to_list, if◌then◌else◌}
+use Rattle.desk_rules.specs.Limits.{is_permitted}
+use Rattle.desk_rules.specs.declared.terms.Terms.{Terms}
 use Rattle.desk_record.specs.Record.{EntryParts, entries, entry}
-use Rattle.desk_program.specs.Recorded.{Noted, answer_entry, operator_entry, request_entry}
-use Rattle.desk_recording.specs.declared.journal.AppendError.{AppendError}
-use Rattle.desk_recording.specs.declared.journal.AppendError.TheVariants.{Journal, OutOfMemory}
+use Rattle.desk_record.specs.declared.kind.Kind.{Kind}
+use Rattle.desk_record.specs.declared.kind.Kind.TheVariants as kind
+use Rattle.desk_replay.specs.Replaying.{version}
+use Rattle.desk_cli.specs.declared.line.Enrolment.{Enrolment}
+use Rattle.desk_program.specs.Enrolling.{Noted, answer_entry, operator_entry, request_entry}
+use Rattle.desk_recording.specs.declared.journal.{AppendError.AppendError, AppendError.TheVariants.Journal, AppendError.TheVariants.OutOfMemory}
 
 -- a write: bytes are appended; all that was appended is flushed to the disk; or one of these failed
 pub data Write : Type 0 where
@@ -16,8 +20,7 @@ pub data Write : Type 0 where
 abbrev pub FollowsWrites : Option (List Write) → Option (List Write) → List Write → Type 0
 FollowsWrites old new more = new ≡ option_map (λ writes. writes ++ more) old
 
--- two writes are not both made: memory ran out before the first; or the first failed; or the first was made,
--- and the second failed
+-- two writes are not both made: memory ran out before the first, or that failed, or only the second failed
 abbrev pub StopsWriting : Option (List Write) → Option (List Write) → Write → Type 0
 StopsWriting old new first = (new ≡ old) ⊎ FollowsWrites old new (Failed ∷ [])
     ⊎ FollowsWrites old new (first ∷ Failed ∷ [])
@@ -54,8 +57,7 @@ abbrev pub answer_writes : ℕ → List ℕ → List Write
 answer_writes second [] = []
 answer_writes second (b ∷ bytes) = appended_writes (answer_entry second (b ∷ bytes))
 
--- the writes of new enrolments: none if there are none; else their entries are appended, in their order, and
--- flushed
+-- the writes of new enrolments: none if there are none; else their entries are appended in order, and flushed
 abbrev pub enrolment_writes : List Enrolment → List Write
 enrolment_writes [] = []
 enrolment_writes (e ∷ es) = Appended (entries (map operator_entry (e ∷ es))) ∷ Synced ∷ []
@@ -71,8 +73,7 @@ appended_in (Failed ∷ writes) = appended_in writes
 abbrev pub text_in : Option (List Write) → Option (List ℕ)
 text_in writes = option_map appended_in writes
 
--- if the writes are known, the text is the one before with the bytes appended; or, if that failed, the one
--- before
+-- if the writes are known, the text is the one before with the bytes appended, or without them if that failed
 abbrev pub AppendsKnown : Option (List Write) → Option (List Write) → Bool → List ℕ → Type 0
 AppendsKnown None now done bytes = ⊤
 AppendsKnown (Some writes) now true bytes = text_in now ≡ Some (appended_in writes ++ bytes)
@@ -81,3 +82,41 @@ AppendsKnown (Some writes) now false bytes = text_in now ≡ Some (appended_in w
 -- the text by these writes, with the second of the last request
 abbrev pub noted_in : ℕ → Option (List Write) → Option Noted
 noted_in second writes = option_map (λ text. record { text = text; second = second }) (text_in writes)
+
+-- ==== The first entries of a journal file (docs/journal-format.md)
+-- the first entry of the journal file with the number n
+abbrev pub record_entry : ℕ → EntryParts
+record_entry n = record { kind = kind.Record; number = n; bytes = version }
+
+-- the entry of a permitted priority
+abbrev pub permitted_entry : ℕ → EntryParts
+permitted_entry priority = record { kind = kind.Permitted; number = priority; bytes = [] }
+
+-- the entry of a limit, of this kind
+abbrev pub limit_entry : Kind → ℕ → EntryParts
+limit_entry reported limit = record { kind = reported; number = limit; bytes = [] }
+
+-- the entry of a priority, if that is among the permitted ones; else none
+abbrev pub permitted_if : List ℕ → ℕ → List EntryParts
+permitted_if permitted priority =
+    if is_permitted permitted priority then permitted_entry priority ∷ [] else []
+
+-- an entry for each permitted priority below the first argument, in ascending order
+unfoldable pub permitted_below : ℕ → List ℕ → List EntryParts
+permitted_below zero permitted = []
+permitted_below (suc n) permitted = permitted_below n permitted ++ permitted_if permitted n
+
+-- the entries of a desk's settings: its permitted priorities, then its limits on spans and cells, if any
+abbrev pub terms_entries : Terms → List EntryParts
+terms_entries terms =
+    permitted_below 1001 terms.permitted
+    ++ (map (limit_entry kind.Spans) (option_to_list terms.spans)
+    ++ map (limit_entry kind.Cells) (option_to_list terms.cells))
+
+-- the first entries: the number of the file, the settings of its desk, and its operators
+abbrev pub header : ℕ → Terms → List Enrolment → List EntryParts
+header n terms operators = record_entry n ∷ (terms_entries terms ++ map operator_entry operators)
+
+-- the writes of these entries: they are appended, and flushed to the disk
+abbrev pub header_writes : ℕ → Terms → List Enrolment → List Write
+header_writes n terms operators = Appended (entries (header n terms operators)) ∷ Synced ∷ []

@@ -1,18 +1,32 @@
--- Recording: the steps of a journal in their order, and what a port reports whose connections are recorded.
-use Rattle.std.specs.Prelude.{◌≡◌, ◌⊎◌, ⊤, ℕ, ℤ, Bool, true, false, List, [], ◌∷◌, ◌++◌, Option, None, Some, option_map, Result, Ok, Err}
-use Rattle.std.specs.Option.{IsSomeAnd}
-use Rattle.desk_cli.specs.declared.line.Enrolment.{Enrolment}
+-- The steps of a journal in their order, and the requests that clients send.
+use Rattle.std.specs.Prelude.{◌≡◌, ◌<◌, ◌⊎◌, ⊤, ℕ, Bool, true, List, [], length, Option, IfSome, ℤ, false, ◌∷◌, ◌++◌, None, Some, option_map, Result, Ok, Err}
+use Rattle.std.specs.{Io.KnownBytes.IsAtEnd, Io.KnownBytes.Appends, Option.IsSomeAnd}
 use Rattle.io_ends.specs.Writing.{BreaksOff}
 use Rattle.io_ends.specs.declared.writing.WriteError.{WriteError}
-use Rattle.desk_wire.specs.Passage.{Course, course}
-use Rattle.desk_wire.specs.RefusalTexts.{server_error_text}
+use Rattle.desk_wire.specs.{Streams.IsTaken, Streams.IsCut, Streams.Course, Streams.course, Bytes.server_error_text}
 use Rattle.desk_wire.specs.declared.response.ServerError.TheVariants.{Store}
-use Rattle.desk_program.specs.Recorded.{Noted, Recorded}
-use Rattle.desk_program.specs.Serving.{Arrival, Closes, Parting, TakesArrival, Traffic, arrived, parted, unreported}
-use Rattle.desk_recording.specs.declared.record.Exchange.{Exchange}
-use Rattle.desk_recording.specs.Receiving.{IsReceived}
-use Rattle.std.specs.Io.KnownBytes.{Appends}
+use Rattle.desk_cli.specs.declared.line.Enrolment.{Enrolment}
+use Rattle.desk_program.specs.{Enrolling.Noted, Enrolling.Recorded, Serving.Arrival, Serving.Closes, Serving.Parting, Serving.TakesArrival, Serving.Traffic, Serving.arrived, Serving.parted, Serving.unreported}
+use Rattle.desk_recording.specs.declared.{receiving.ReceiveFault.ReceiveFault, receiving.ReceiveFault.TheVariants.CutShort, receiving.ReceiveFault.TheVariants.Unread, receiving.ReceiveFault.TheVariants.OutOfMemory, record.Exchange.Exchange}
 
+-- why no whole request came: the client's bytes end inside it (`cut` says so); or a read failed or memory ran
+-- out, of which nothing is said
+abbrev pub IsStoppedBy : {R : Type 0} → Type 0 → ReceiveFault R → Type 0
+IsStoppedBy cut CutShort = cut
+IsStoppedBy cut (Unread unread) = ⊤
+IsStoppedBy cut OutOfMemory = ⊤
+
+-- a client sent no whole request: its bytes (sent) had ended, or end inside one; or a read failed
+abbrev pub SentNone : Bool → Option (List ℕ) → Type 0
+SentNone failed sent = IsAtEnd sent ⊎ IfSome sent IsCut ⊎ (failed ≡ true)
+
+-- the request that was received: it is the next one of the bytes that the client sent, and `left` is left of
+-- them; or it is empty, since the client sent no whole one
+pub record IsReceived (failed : Bool) (sent left : Option (List ℕ)) (request : List ℕ) : Type 0 where
+  pub whole : 0 < length request → IsTaken sent left request
+  pub none : request ≡ [] → SentNone failed sent
+
+-- ==== The steps of a journal in their order, and what a port reports whose connections are recorded
 -- a step of a journal: new enrolments are recorded; a request is recorded, decided at a moment (no bytes if
 -- no whole request came); the answer of a connection is recorded; or it is lost
 pub data Step : Type 0 where

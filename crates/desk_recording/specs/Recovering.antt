@@ -1,25 +1,19 @@
 -- Recovering: what a journal left pending is done at its desk.
 use Rattle.std.specs.Prelude.{◌≡◌, ◌<◌, ◌⊎◌, ⊤, ℕ, ℤ, pos, Bool, true, not, ◌&&◌, nat_lt, List, [], ◌∷◌, ◌++◌, filter, Option, None, Some, option_map, Result, Ok, Err, IsOkAnd}
-use Rattle.std.specs.List.{list_any}
-use Rattle.std.specs.Str.{bytes_eq}
+use Rattle.std.specs.{List.list_any, Str.bytes_eq}
 use Rattle.desk_rules.specs.Limits.{max_priority}
 use Rattle.desk_rules.specs.declared.terms.Terms.{Terms}
 use Rattle.request_parser.specs.Requests.{asked}
-use Rattle.desk_run.specs.DeskWorld.{DeskWorld}
-use Rattle.desk_wire.specs.Bytes.{text_for, world_after}
-use Rattle.desk_wire.specs.Passage.{Course, course}
-use Rattle.desk_cli.specs.declared.failure.ErrorCode.{ErrorCode}
+use Rattle.desk_run.specs.Verdicts.{DeskWorld}
+use Rattle.desk_wire.specs.{Bytes.text_for, Bytes.world_after, Streams.Course, Streams.course}
+use Rattle.desk_cli.specs.declared.{failure.ErrorCode.ErrorCode, line.Enrolment.Enrolment}
 use Rattle.desk_cli.specs.declared.failure.ErrorCode.TheVariants as failure
-use Rattle.desk_cli.specs.declared.line.Enrolment.{Enrolment}
 use Rattle.desk_cli.specs.Exits.{IsLineBreakdown}
-use Rattle.desk_program.specs.Enrolling.{AreEnrolledSoFar, on_terms, with_operators}
-use Rattle.desk_program.specs.Serving.{Parting, parted}
+use Rattle.desk_program.specs.{Enrolling.AreEnrolledSoFar, Enrolling.on_terms, Enrolling.with_operators, Serving.Parting, Serving.parted}
 use Rattle.desk_program.specs.declared.port.ExchangeEnd.{ExchangeEnd}
 use Rattle.desk_replay.specs.Replaying.{last_moment}
-use Rattle.desk_recording.specs.declared.recovering.RecoveryError.{RecoveryError}
-use Rattle.desk_recording.specs.declared.recovering.RecoveryError.TheVariants.{OutOfMemory, Store, Clock, JournalError}
-use Rattle.desk_recording.specs.Recording.{Answered, Asked, Lost, Step}
-use Rattle.desk_recording.specs.Tail.{UnansweredParts}
+use Rattle.desk_recording.specs.declared.recovering.{RecoveryError.RecoveryError, RecoveryError.TheVariants.OutOfMemory, RecoveryError.TheVariants.Store, RecoveryError.TheVariants.Clock, RecoveryError.TheVariants.JournalError}
+use Rattle.desk_recording.specs.{Recording.Answered, Recording.Asked, Recording.Lost, Recording.Step, Tail.UnansweredParts}
 
 -- an operator of this name is on the roll, the list of enrolled operators
 abbrev pub is_on_roll : List Enrolment → List ℕ → Bool
@@ -110,8 +104,7 @@ module _ (H : Type 0) where
       IsOkAnd done (λ _. (world.after ≡ world.before) × (steps.after ≡ steps.before))
   RedoesIfPending (Some u) world steps done = RedoesRequest H u world steps done
 
-  -- the desk gets the journal's settings, and the missing operators are enrolled; then the request is
-  -- repeated
+  -- the desk gets the journal's settings, the missing operators are enrolled, then the request is repeated
   pub record IsRecovered (u : Undone) (world : Course DeskWorld) (steps : Course (Option (List Step)))
       (done : Result ⊤ ErrorCode) : Type 0 where
     pub listed : DeskWorld
@@ -126,7 +119,6 @@ module _ (H : Type 0) where
     pub listed : AreEnrolledSoFar H u.missing (on_terms world.before u.terms) world.after
 
   -- the result of a recovery: one or the other
-  abbrev pub Recovers :
-      Undone → Course DeskWorld → Course (Option (List Step)) → Result ⊤ ErrorCode → Type 0
+  abbrev pub Recovers : Undone → Course DeskWorld → Course (Option (List Step)) → Result ⊤ ErrorCode → Type 0
   Recovers u world steps (Ok done) = IsRecovered u world steps (Ok done)
   Recovers u world steps (Err f) = IsRecovered u world steps (Err f) ⊎ IsNotRecovered u world steps f

@@ -1,35 +1,22 @@
 -- Tail: what the last journal of a folder says, and what it leaves pending (docs/journal-format.md).
 use Rattle.std.specs.Prelude.{◌≡◌, ◌⊎◌, ⊤, ℕ, ◌+◌, ◌-◌, ◌^◌, ◌==◌, ◌&&◌, ◌||◌, min, length, is_none, is_some, nat_le, nat_lt, List, [], ◌∷◌, ◌++◌, Bool, true, false, not, if◌then◌else◌, Option, Some, None, IfSome, option_and_then, Result, Ok, Err}
-use Rattle.std.specs.List.{AllByRecursion}
-use Rattle.std.specs.Str.{bytes_eq}
-use Rattle.std.specs.Io.KnownBytes.{Consumes, IsAtEnd}
-use Rattle.desk_rules.specs.Limits.{max_priority, max_spans, max_total_cells}
-use Rattle.desk_rules.specs.Name.{is_operator_name}
-use Rattle.desk_rules.specs.Permission.{permitted_in}
-use Rattle.desk_rules.specs.Terms.{no_terms}
-use Rattle.desk_rules.specs.declared.permission.PermitFault.{PermitFault}
-use Rattle.desk_rules.specs.declared.terms.Terms.{Terms}
+use Rattle.std.specs.{List.AllByRecursion, Str.bytes_eq, Io.KnownBytes.Consumes, Io.KnownBytes.IsAtEnd}
+use Rattle.desk_rules.specs.{Limits.max_priority, Limits.max_spans, Limits.max_total_cells, Limits.is_operator_name, Limits.permitted_in, Outcome.no_terms}
+use Rattle.desk_rules.specs.declared.{permission.PermitFault.PermitFault, terms.Terms.Terms}
 use Rattle.desk_cli.specs.declared.line.Enrolment.{Enrolment}
-use Rattle.desk_record.specs.Record.{EntryParts, Fits, entries, entry}
-use Rattle.desk_record.specs.Reading.{IsDamagedRecord, IsTooShort}
+use Rattle.desk_record.specs.Record.{EntryParts, Fits, entries, entry, IsDamagedRecord, IsTooShort}
 use Rattle.desk_record.specs.declared.kind.Kind.{Kind}
 use Rattle.desk_record.specs.declared.kind.Kind.TheVariants as kind
 use Rattle.desk_replay.specs.Replaying.{is_failure, last_moment, version}
-use Rattle.desk_recording.specs.declared.tail.Tail.{Tail}
-use Rattle.desk_recording.specs.declared.tail.PendingRequest.{PendingRequest}
-use Rattle.desk_recording.specs.declared.tail.TailEnd.{TailEnd}
-use Rattle.desk_recording.specs.declared.tail.TailEnd.TheVariants.{End, Short, Damaged}
-use Rattle.desk_recording.specs.declared.tail.TailFault.{TailFault}
-use Rattle.desk_recording.specs.declared.tail.TailFault.TheVariants.{Read, OutOfMemory, NoRecord}
+use Rattle.desk_recording.specs.declared.tail.{Tail.Tail, PendingRequest.PendingRequest, TailEnd.TailEnd, TailEnd.TheVariants.End, TailEnd.TheVariants.Short, TailEnd.TheVariants.Damaged, TailFault.TailFault, TailFault.TheVariants.Read, TailFault.TheVariants.OutOfMemory, TailFault.TheVariants.NoRecord}
 
 -- a request that has no answer, or a 500
 pub record UnansweredParts : Type 0 where
   pub second : ℕ
   pub request : List ℕ
 
--- what the entries of a journal say so far: its number, if it has begun; its permitted priorities and its
--- settings; the operators enrolled after its last request; that request, if it has no answer, or a 500; and
--- how many bytes the entries have
+-- what a journal's entries say so far: its number, if begun; its permitted priorities and settings; operators
+-- enrolled after its last request; that request, if it has no answer, or a 500; and how many bytes they have
 pub record TailParts : Type 0 where
   pub record_number : Option ℕ
   pub permitted : List ℕ

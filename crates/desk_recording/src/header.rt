@@ -2,10 +2,8 @@
 
 ghost use Rattle.std.specs.Prelude.{◌≡◌, ◌++◌, map, option_to_list, IfOk, OnErr, OnOk};
 ghost use Rattle.desk_record.specs.Record.{entries};
-ghost use Rattle.desk_recording.specs.Beginning.{header, header_writes, permitted_below, permitted_if};
-ghost use Rattle.desk_recording.specs.Beginning.{limit_entry};
-ghost use Rattle.desk_program.specs.Recorded.{operator_entry};
-ghost use Rattle.desk_recording.specs.RecordWrites.{Appended, FollowsWrites, StopsWriting};
+ghost use Rattle.desk_recording.specs.RecordWrites.{header, header_writes, permitted_below, permitted_if, limit_entry, Appended, FollowsWrites, StopsWriting};
+ghost use Rattle.desk_program.specs.Enrolling.{operator_entry};
 
 use crate::journal::{AppendError, Journal, append_to, sync_to};
 use desk_cli::Enrolment;

@@ -2,13 +2,10 @@
 //! are recorded as those of `serve` are.
 
 ghost use Rattle.std.specs.Prelude.{◌≡◌, [], false, Err, IfErr, IfOk, IfSome, IsOkAnd, IsSome, None, Ok, OnErr, OnOk, Some, not};
-ghost use Rattle.std.specs.Option.{IsSomeAnd, option_map};
-ghost use Rattle.std.specs.Result.{is_ok};
-ghost use Rattle.std.specs.Io.Cursor.{cursor_inner, cursor_remaining};
-ghost use Rattle.desk_wire.specs.OneRequest.{IsTaken};
-ghost use Rattle.desk_wire.specs.Passage.{course};
+ghost use Rattle.std.specs.{Option.IsSomeAnd, Option.option_map, Result.is_ok, Io.Cursor.cursor_inner, Io.Cursor.cursor_remaining};
+ghost use Rattle.desk_wire.specs.Streams.{IsTaken, course};
 ghost use Rattle.desk_cli.specs.Lines.{AreEnrolments, IsPlay};
-ghost use Rattle.desk_program.specs.Recorded.{IsOpen};
+ghost use Rattle.desk_program.specs.Enrolling.{IsOpen};
 ghost use Rattle.desk_program.specs.Serving.{BringsEnrolments, Closes, AddsNothingNew, IsPortError, IsFresh, Listens, TakesArrival, arrived, parted, unreported};
 ghost use Rattle.desk_recording.specs.Inputs as spec;
 ghost use Rattle.desk_recording.specs.Inputs.{EndsInput, HandsOutNone, IsUnrecorded, PlaysRecorded, input_outside};

@@ -1,16 +1,13 @@
 //! Laws of the definitions. Each is the contract of a function that does nothing but call another law.
 
 ghost use Rattle.std.specs.Prelude.{◌≡◌, ⊤, ℕ, Ok, Option, Result, Some};
-ghost use Rattle.desk_store.specs.StoreFaults.{IsHonest};
-ghost use Rattle.desk_store.specs.World.{World};
-ghost use Rattle.desk_run.specs.DeskWorld.{DeskWorld};
-ghost use Rattle.desk_wire.specs.Passage.{Course};
+ghost use Rattle.desk_store.specs.{Changes.IsHonest, World.World};
+ghost use Rattle.desk_run.specs.Verdicts.{DeskWorld};
+ghost use Rattle.desk_wire.specs.Streams.{Course};
 ghost use Rattle.desk_cli.specs.declared.failure.ErrorCode.{ErrorCode};
-ghost use Rattle.desk_program.specs.Keeping.{IsFoundServed};
-ghost use Rattle.desk_program.specs.Recorded.{Noted, Open};
-ghost use Rattle.desk_program.specs.Serving.{AreTaken, Traffic};
+ghost use Rattle.desk_program.specs.{Keeping.IsFoundServed, Enrolling.Noted, Enrolling.Open, Serving.AreTaken, Serving.Traffic};
 ghost use Rattle.desk_replay.specs.Replaying.{State};
-ghost use Rattle.desk_recording.specs.Played.{AddsOpen, EndsFound, EndsPlayed, IsPlayedTo, entries_of};
+ghost use Rattle.desk_recording.specs.Inputs.{AddsOpen, EndsFound, EndsPlayed, IsPlayedTo, entries_of};
 
 use desk_wire::laws::request_ends;
 

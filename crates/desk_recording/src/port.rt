@@ -1,22 +1,15 @@
 //! A port whose connections are recorded.
 
-ghost use Rattle.std.specs.Prelude.{◌≡◌, ◌⊎◌, false, true};
-ghost use Rattle.std.specs.Prelude.{Err, None, Some, IfErr, IfOk, IsSome, OnErr, OnOk};
-ghost use Rattle.std.specs.Option.{IsNone, is_none, is_some};
-ghost use Rattle.std.specs.Result.{is_ok};
-ghost use Rattle.std.specs.Io.Cursor.{cursor_inner, cursor_remaining};
-ghost use Rattle.desk_wire.specs.Passage.{course};
-ghost use Rattle.desk_wire.specs.RefusalTexts.{server_error_text};
+ghost use Rattle.std.specs.Prelude.{◌≡◌, ◌⊎◌, false, true, Err, None, Some, IfErr, IfOk, IsSome, OnErr, OnOk};
+ghost use Rattle.std.specs.{Option.IsNone, Option.is_none, Option.is_some, Result.is_ok, Io.Cursor.cursor_inner, Io.Cursor.cursor_remaining};
+ghost use Rattle.desk_wire.specs.{Streams.course, Bytes.server_error_text};
 ghost use Rattle.desk_wire.specs.declared.response.ServerError.TheVariants.{Store};
 ghost use Rattle.desk_cli.specs.Lines.{AreEnrolments};
-ghost use Rattle.desk_program.specs.Recorded.{IsOpen, with_answer};
-ghost use Rattle.desk_program.specs.Serving.{BringsEnrolments, Closes, AddsNothingNew, IsPortError, IsFresh, Listens};
-ghost use Rattle.desk_program.specs.Serving.{TakesArrival, arrived};
-ghost use Rattle.desk_recording.specs.Recording.{AddsIf, AddsStep, Answered, IsClosedBy, IsTakenFrom, Notes, Sends};
-ghost use Rattle.desk_recording.specs.Recording.{SendsKept, client_of, parting_of};
-ghost use Rattle.desk_recording.specs.Receiving.{IsReceived};
-ghost use Rattle.desk_recording.specs.Reporting as spec;
-ghost use Rattle.desk_recording.specs.Reporting.{parted_in, reported_of};
+ghost use Rattle.desk_program.specs.Enrolling.{IsOpen, with_answer};
+ghost use Rattle.desk_program.specs.Serving.{BringsEnrolments, Closes, AddsNothingNew, IsPortError, IsFresh, Listens, TakesArrival, arrived};
+ghost use Rattle.desk_recording.specs.Recording.{AddsIf, AddsStep, Answered, IsClosedBy, IsTakenFrom, Notes, Sends, SendsKept, client_of, parting_of, IsReceived};
+ghost use Rattle.desk_recording.specs.Inputs as spec;
+ghost use Rattle.desk_recording.specs.Inputs.{parted_in, reported_of};
 
 use crate::receiving::{ReceiveError, ReceiveFault, receive};
 use crate::record::{Exchange, Record, RecordFault};

@@ -2,9 +2,8 @@
 
 ghost use Rattle.std.specs.Prelude.{◌≡◌, ◌<◌, [], length, IfErr, IfOk, IfSome};
 ghost use Rattle.std.specs.Io.KnownBytes.{IsAtEnd};
-ghost use Rattle.desk_wire.specs.OneRequest.{IsTaken};
-ghost use Rattle.desk_wire.specs.Streams.{IsCut};
-ghost use Rattle.desk_recording.specs.Receiving.{IsStoppedBy};
+ghost use Rattle.desk_wire.specs.Streams.{IsTaken, IsCut};
+ghost use Rattle.desk_recording.specs.Recording.{IsStoppedBy};
 
 use desk_wire::receive_request;
 use io_ends::ServeFault;

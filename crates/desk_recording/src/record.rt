@@ -2,9 +2,8 @@
 
 ghost use Rattle.std.specs.Prelude.{◌≡◌, IfSome, List, OnOk, Option, None};
 ghost use Rattle.std.specs.Result.{is_ok};
-ghost use Rattle.desk_program.specs.Recorded.{AreNamed, Noted, with_answer, with_news, with_request};
-ghost use Rattle.desk_recording.specs.Recording.{AddsIf, AddsStep, Answered, Asked, Enrolled, Lost, Notes};
-ghost use Rattle.desk_recording.specs.Recording.{NotesOnDisk, Step, parting_of};
+ghost use Rattle.desk_program.specs.Enrolling.{AreNamed, Noted, with_answer, with_news, with_request};
+ghost use Rattle.desk_recording.specs.Recording.{AddsIf, AddsStep, Answered, Asked, Enrolled, Lost, Notes, NotesOnDisk, Step, parting_of};
 
 use desk_cli::Enrolment;
 use desk_program::ExchangeEnd;

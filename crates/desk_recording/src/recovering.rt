@@ -2,18 +2,14 @@
 
 ghost use Rattle.std.specs.Prelude.{◌≡◌, ◌≤◌, ◌⊎◌, IsTrue, IfErr, IfOk, OnOk};
 ghost use Rattle.desk_rules.specs.Limits.{max_priority};
-ghost use Rattle.desk_store.specs.StoreFaults.{HasRisen, IsHonest};
-ghost use Rattle.desk_store.specs.StoreFrames.{Remembers};
-ghost use Rattle.desk_run.specs.CallFaults.{IsBreakdown};
-ghost use Rattle.desk_run.specs.DeskWorld.{world_of};
-ghost use Rattle.desk_wire.specs.Passage.{course};
-ghost use Rattle.desk_cli.specs.Exits.{enrolment_failure};
-ghost use Rattle.desk_cli.specs.Lines.{AreEnrolments};
+ghost use Rattle.desk_store.specs.Changes.{HasRisen, IsHonest, Remembers};
+ghost use Rattle.desk_run.specs.{Calls.IsBreakdown, Verdicts.world_of};
+ghost use Rattle.desk_wire.specs.Streams.{course};
+ghost use Rattle.desk_cli.specs.{Exits.enrolment_failure, Lines.AreEnrolments};
 ghost use Rattle.desk_replay.specs.Replaying.{IsDeskFault, StaysSettled};
-ghost use Rattle.desk_recording.specs.Recording.{AddsStep, Answered, Lost, parting_of};
+ghost use Rattle.desk_recording.specs.{Recording.AddsStep, Recording.Answered, Recording.Lost, Recording.parting_of, Tail.unanswered_in, Tail.unanswered_shown};
 ghost use Rattle.desk_recording.specs.Recovering as spec;
 ghost use Rattle.desk_recording.specs.Recovering.{RedoesRequest, RedoesIfPending, Recovers, ended_as, parting_without_client, undone};
-ghost use Rattle.desk_recording.specs.Tail.{unanswered_in, unanswered_shown};
 
 use crate::record::{Exchange, Record, RecordFault};
 use crate::tail::PendingRequest;

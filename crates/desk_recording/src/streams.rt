@@ -1,9 +1,7 @@
 //! The buffered streams of a connection that is recorded.
 
 ghost use Rattle.std.specs.Prelude.{◌≡◌, Some};
-ghost use Rattle.std.specs.Io.{ReadsAtMost, WritesAtMost};
-ghost use Rattle.std.specs.Io.Cursor.{cursor_remaining};
-ghost use Rattle.std.specs.Io.KnownBytes.{ReadConsumes, WriteAppends};
+ghost use Rattle.std.specs.{Io.ReadsAtMost, Io.WritesAtMost, Io.Cursor.cursor_remaining, Io.KnownBytes.ReadConsumes, Io.KnownBytes.WriteAppends};
 
 use crate::receiving::ReceiveError;
 use std::io::{self, Cursor, Read, Write};

@@ -2,8 +2,7 @@
 
 ghost use Rattle.std.specs.Prelude.{◌≡◌, IfErr, IfOk};
 ghost use Rattle.std.specs.Io.KnownBytes.{Consumes};
-ghost use Rattle.desk_record.specs.Reading.{entry_parts};
-ghost use Rattle.desk_record.specs.Record.{entry};
+ghost use Rattle.desk_record.specs.Record.{entry_parts, entry};
 ghost use Rattle.desk_recording.specs.Tail as spec;
 ghost use Rattle.desk_recording.specs.Tail.{HasNoTail, IsTail, Notes, StepsTail, empty_tail, tail_with, tail_shown};
 

@@ -3,13 +3,9 @@
 ghost use Rattle.std.specs.Prelude.{◌≡◌, map, nat_abs, [], ◌∷◌, None, IfOk, IfSome, OnErr, OnOk};
 ghost use Rattle.std.specs.Result.{is_ok};
 ghost use Rattle.desk_record.specs.Record.{entries, entry};
-ghost use Rattle.desk_program.specs.Recorded.{AreNamed, operator_entry, request_entry, with_answer, with_news};
-ghost use Rattle.desk_program.specs.Recorded.{with_request};
-ghost use Rattle.desk_recording.specs.Recording.{AddsIf, Answered, Asked, Enrolled, Notes, NotesOnDisk};
-ghost use Rattle.desk_recording.specs.Recording.{parting_of};
-ghost use Rattle.desk_recording.specs.RecordWrites.{Appended, AppendsKnown, Failed, FollowsWrites, IsNotWritten, MakesWrite};
-ghost use Rattle.desk_recording.specs.RecordWrites.{StopsWriting, Synced, answer_writes, appended_writes};
-ghost use Rattle.desk_recording.specs.RecordWrites.{enrolment_writes, noted_in, request_writes};
+ghost use Rattle.desk_program.specs.Enrolling.{AreNamed, operator_entry, request_entry, with_answer, with_news, with_request};
+ghost use Rattle.desk_recording.specs.Recording.{AddsIf, Answered, Asked, Enrolled, Notes, NotesOnDisk, parting_of};
+ghost use Rattle.desk_recording.specs.RecordWrites.{Appended, AppendsKnown, Failed, FollowsWrites, IsNotWritten, MakesWrite, StopsWriting, Synced, answer_writes, appended_writes, enrolment_writes, noted_in, request_writes};
 
 use crate::journal::{AppendError, Journal, append_to, sync_to};
 use crate::record::{Exchange, Record};

@@ -6,10 +6,8 @@ use Rattle.std.specs.Str.{bytes_eq}
 use Rattle.std.proofs.lemmas.Bool.Decides.{nat_tests}
 use Rattle.std.proofs.lemmas.Slice.Eq.{bytes_eq-Decides}
 use Rattle.request_parser.specs.Requests.{asked}
-use Rattle.desk_wire.specs.AllAnswers.{world_left}
-use Rattle.desk_wire.specs.Bytes.{makes_change_for, text_for, world_after}
-use Rattle.desk_replay.specs.Replaying.{AskingParts, State, answer_outcome, asked_now, answered_by, counted, is_failure, is_first, last_moment, played, requested, taken, then_taken, with_change}
-use Rattle.desk_replay.specs.WrittenDown.{TimedRequest, IsTimely, answering_entry, asking_entry, sent, written}
+use Rattle.desk_wire.specs.Bytes.{world_left, makes_change_for, text_for, world_after}
+use Rattle.desk_replay.specs.Replaying.{AskingParts, State, answer_outcome, asked_now, answered_by, counted, is_failure, is_first, last_moment, played, requested, taken, then_taken, with_change, TimedRequest, IsTimely, answering_entry, asking_entry, sent, written}
 
 -- the state in which a request waits for its answer, and the one after it
 asked_of : State → TimedRequest → State

@@ -4,8 +4,8 @@ use Rattle.std.specs.List.{AllByRecursion}
 use Rattle.std.specs.Io.KnownBytes.{Consumes}
 use Rattle.std.proofs.KnownBytes.{Consumes-nil, Consumes-trans}
 use Rattle.desk_record.specs.Record.{EntryParts, Fits, entries, entry}
-use Rattle.desk_run.specs.DeskWorld.{DeskWorld}
-use Rattle.desk_wire.specs.Passage.{course}
+use Rattle.desk_run.specs.Verdicts.{DeskWorld}
+use Rattle.desk_wire.specs.Streams.{course}
 use Rattle.desk_replay.specs.Replaying.{IsDeskFault, Outcome, State, played, taken, then_taken}
 use Rattle.desk_replay.specs.Running.{AreEntriesPlayed, Ends, HasReplayed, IsEntryPlayed, size_of, start}
 use Rattle.desk_replay.specs.declared.stream.ReplayEnd.{ReplayEnd}

@@ -1,5 +1,2 @@
-pub mod Faults
-pub mod ReplayReported
-pub mod Replaying
 pub mod Running
-pub mod WrittenDown
+pub mod Replaying

@@ -1,29 +1,20 @@
--- Replaying: a journal replayed at a desk's world, entry by entry (docs/journal-format.md).
-use Rattle.std.specs.Prelude.{◌≡◌, ◌⊎◌, ⊤, ℕ, ℤ, pos, ◌+◌, ◌==◌, min, length, is_none, nat_le, nat_lt, ◌^◌, ◌-◌, List, [], ◌∷◌, ◌++◌, Bool, true, false, not, ◌&&◌, ◌||◌, if◌then◌else◌, Option, Some, None, Result, Ok, Err, codes}
+-- A journal replayed at a desk's world, entry by entry, and what a desk writes to its journal.
+use Rattle.std.specs.Prelude.{◌≡◌, ◌⊎◌, ⊤, ℕ, ℤ, pos, ◌+◌, ◌==◌, min, length, is_none, nat_le, nat_lt, ◌^◌, ◌-◌, List, [], ◌∷◌, ◌++◌, Bool, true, false, not, ◌&&◌, ◌||◌, if◌then◌else◌, Option, Some, None, Result, Ok, Err, codes, ◌≤◌, map}
 use Rattle.std.specs.Str.{bytes_eq}
-use Rattle.desk_rules.specs.Limits.{max_priority, max_spans, max_total_cells}
-use Rattle.desk_rules.specs.Name.{is_operator_name}
-use Rattle.desk_rules.specs.Permission.{permitted_in}
-use Rattle.desk_rules.specs.Terms.{no_terms}
-use Rattle.desk_rules.specs.declared.terms.Terms.{Terms}
-use Rattle.desk_rules.specs.declared.permission.PermitFault.{PermitFault}
+use Rattle.desk_rules.specs.{Limits.max_priority, Limits.max_spans, Limits.max_total_cells, Limits.is_operator_name, Limits.permitted_in, Outcome.no_terms}
+use Rattle.desk_rules.specs.declared.{terms.Terms.Terms, permission.PermitFault.PermitFault}
+use Rattle.desk_store.specs.{Changes.IsHonest, World.World}
+use Rattle.desk_store.specs.declared.store.PlanStore.{Ghosts}
+use Rattle.desk_run.specs.Verdicts.{DeskWorld, IsSettled, Parts, enrolled, world_of}
+use Rattle.request_parser.specs.Requests.{asked}
 use Rattle.desk_record.specs.Record.{EntryParts}
 use Rattle.desk_record.specs.declared.kind.Kind.{Kind}
 use Rattle.desk_record.specs.declared.kind.Kind.TheVariants as kind
-use Rattle.request_parser.specs.Requests.{asked}
-use Rattle.desk_store.specs.StoreFaults.{IsHonest}
-use Rattle.desk_store.specs.World.{World}
-use Rattle.desk_store.specs.declared.store.PlanStore.{Ghosts}
-use Rattle.desk_run.specs.DeskWorld.{DeskWorld, IsSettled, Parts, enrolled, world_of}
-use Rattle.desk_wire.specs.Bytes.{makes_change_for, text_for, world_after}
-use Rattle.desk_wire.specs.Passage.{Course}
-use Rattle.desk_wire.specs.RefusalTexts.{server_error_text}
+use Rattle.desk_wire.specs.{Bytes.makes_change_for, Bytes.text_for, Bytes.world_after, Bytes.server_error_text, Bytes.Sent, Streams.Course}
 use Rattle.desk_wire.specs.declared.response.ServerError.TheVariants as error
-use Rattle.desk_replay.specs.declared.fault.ReplayFault.{ReplayFault}
-use Rattle.desk_replay.specs.declared.fault.ReplayFault.TheVariants.{OutOfMemory, Store, NoRecord, NotNext, Differs}
-use Rattle.desk_replay.specs.declared.progress.UnansweredRequest.{UnansweredRequest}
-use Rattle.desk_replay.specs.declared.progress.Progress.{Progress}
+use Rattle.desk_replay.specs.declared.{fault.ReplayFault.ReplayFault, fault.ReplayFault.TheVariants.OutOfMemory, fault.ReplayFault.TheVariants.Store, fault.ReplayFault.TheVariants.NoRecord, fault.ReplayFault.TheVariants.NotNext, fault.ReplayFault.TheVariants.Differs, progress.UnansweredRequest.UnansweredRequest, progress.Progress.Progress}
 
+-- ==== A journal replayed at a desk's world, entry by entry (docs/journal-format.md)
 -- a request whose recorded answer is still to come
 pub record AskingParts : Type 0 where
   pub second : ℕ
@@ -167,8 +158,7 @@ abbrev pub first_of : Option (List ℕ) → List ℕ → List ℕ
 first_of None answer = answer
 first_of (Some before) answer = before
 
--- Some None for a request that is new, Some of the first answer for one that is repeated; None if neither
--- may come here
+-- Some None for a new request, Some of the first answer for a repeated one; None if neither may come here
 abbrev pub request_turn : Option AskingParts → ℕ → List ℕ → Option (Option (List ℕ))
 request_turn None second request = Some None
 request_turn (Some a) second request =
@@ -184,8 +174,7 @@ abbrev pub has_changed : Option AskingParts → Bool
 has_changed None = false
 has_changed (Some a) = a.made_change
 
--- the count of requests that changed the database after one more: whether it did so before, if it is
--- repeated, and whether it does so now
+-- the count of requests that changed the database, after one more, which counts if it did now and not before
 abbrev pub with_change : Bool → Bool → ℕ → ℕ
 with_change true now n = n
 with_change false false n = n
@@ -303,3 +292,35 @@ abbrev pub StepsAt :
 StepsAt content done step desk progress =
     GivesOutcome done (step (state_at content desk.before progress.before))
     (state_at content desk.before progress.before) (state_at content desk.after progress.after)
+
+-- ==== What a desk writes to its journal for the requests that it answers
+-- the second of a request, and its bytes
+pub record TimedRequest : Type 0 where
+  pub second : ℕ
+  pub request : List ℕ
+
+-- the request with its moment
+abbrev pub sent : TimedRequest → Sent
+sent r = (pos r.second, r.request)
+
+-- the second of the request is a moment
+abbrev pub IsTimely : TimedRequest → Type 0
+IsTimely r = r.second ≤ last_moment
+
+-- the entry of a request
+abbrev pub asking_entry : TimedRequest → EntryParts
+asking_entry r = record { kind = kind.Request; number = r.second; bytes = r.request }
+
+-- the entry of the answer to a request at the world w
+abbrev pub answering_entry : DeskWorld → TimedRequest → EntryParts
+answering_entry w r = record {
+  kind = kind.Answer;
+  number = r.second;
+  bytes = text_for w (pos r.second) (asked r.request);
+}
+
+-- the entries of requests: each request, and after it its answer at the world that those before it left
+abbrev pub written : DeskWorld → List TimedRequest → List EntryParts
+written w [] = []
+written w (r ∷ rs) =
+    asking_entry r ∷ answering_entry w r ∷ written (world_after w (pos r.second) (asked r.request)) rs

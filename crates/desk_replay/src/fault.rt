@@ -31,7 +31,7 @@ impl From<AllocError> for ReplayFault {
 
 impl From<DeskFault> for ReplayFault {
     ghost use Rattle.std.specs.Prelude.{◌≡◌};
-    ghost use Rattle.desk_replay.specs.Faults.{replay_fault_of};
+    ghost use Rattle.desk_replay.specs.Running.{replay_fault_of};
 
     ghost from_gives = { λ fault f. f ≡ replay_fault_of fault };
 

@@ -2,9 +2,8 @@
 
 ghost use Rattle.std.specs.Prelude.{◌≡◌, None, IsSome, List, Ok, map};
 ghost use Rattle.std.specs.List.{AllByRecursion};
-ghost use Rattle.desk_wire.specs.AllAnswers.{world_left};
-ghost use Rattle.desk_replay.specs.Replaying.{State, played};
-ghost use Rattle.desk_replay.specs.WrittenDown.{TimedRequest, IsTimely, sent, written};
+ghost use Rattle.desk_wire.specs.Bytes.{world_left};
+ghost use Rattle.desk_replay.specs.Replaying.{State, played, TimedRequest, IsTimely, sent, written};
 
 /// Take the entries that a desk writes to its journal for `requests` that it answers one after the other.
 /// Their replay from a state `s` in which a journal file has begun (`record_number`) and no request is

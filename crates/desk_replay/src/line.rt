@@ -1,15 +1,12 @@
 //! The command `replay`, once its database is open: the journal is replayed, and the result is printed.
 
 ghost use Rattle.std.specs.Prelude.{◌≡◌, ◌⊎◌, IfErr, IfOk, is_some, string_bytes};
-ghost use Rattle.desk_store.specs.StoreFaults.{IsHonest};
-ghost use Rattle.desk_store.specs.StoreFrames.{Remembers};
-ghost use Rattle.desk_run.specs.DeskWorld.{world_of};
-ghost use Rattle.desk_wire.specs.Passage.{course, passage};
-ghost use Rattle.desk_cli.specs.Exits.{ending};
-ghost use Rattle.desk_cli.specs.Written.{IsWrittenOrCut};
-ghost use Rattle.desk_replay.specs.ReplayReported as spec;
-ghost use Rattle.desk_replay.specs.ReplayReported.{IsLinePrinted, IsLineWritten, IsReplayReported, IsReplayed};
-ghost use Rattle.desk_replay.specs.ReplayReported.{IsUnplayed, Replays, place_line, replayed_line};
+ghost use Rattle.desk_store.specs.Changes.{IsHonest, Remembers};
+ghost use Rattle.desk_run.specs.Verdicts.{world_of};
+ghost use Rattle.desk_wire.specs.Streams.{course, passage};
+ghost use Rattle.desk_cli.specs.Exits.{ending, IsWrittenOrCut};
+ghost use Rattle.desk_replay.specs.Running as spec;
+ghost use Rattle.desk_replay.specs.Running.{IsLinePrinted, IsLineWritten, IsReplayReported, IsReplayed, IsUnplayed, Replays, place_line, replayed_line};
 
 use crate::fault::ReplayFault;
 use crate::stream::{ReplayEnd, Replayed, replay};
@@ -145,7 +142,7 @@ fn print_summary<W: Write>(
 }
 
 // The summary of a complete replay: how many requests were replayed, and how many changed the database.
-#[tactic(auto, unfolding(crate::specs::ReplayReported::replayed_line))]
+#[tactic(auto, unfolding(crate::specs::Running::replayed_line))]
 fn summary_line(alloc: Global, requests: u64, changes: u64) -> Result<String, AllocError>
     ensures { IfOk result (λ text. string_bytes text ≡ replayed_line requests changes) }
 {
@@ -165,7 +162,7 @@ fn report_cause<E: Write>(alloc: Global, requests: u64, place: u64, cause: &str,
 }
 
 // The line that says where and why a replay stopped, as `report_cause` prints it.
-#[tactic(auto, unfolding(crate::specs::ReplayReported::place_line))]
+#[tactic(auto, unfolding(crate::specs::Running::place_line))]
 fn cause_line(alloc: Global, requests: u64, place: u64, cause: &str) -> Result<String, AllocError>
     ensures { IfOk result (λ text. string_bytes text ≡ place_line requests place cause.now) }
 {

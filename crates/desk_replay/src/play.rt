@@ -1,16 +1,13 @@
 //! Entries of a journal, replayed at a desk.
 
 ghost use Rattle.std.specs.Prelude.{◌≡◌, ◌⊎◌, IfErr, IfOk, OnErr, OnOk};
-ghost use Rattle.desk_store.specs.StoreFaults.{HasRisen, IsHonest};
-ghost use Rattle.desk_store.specs.StoreFrames.{Remembers};
+ghost use Rattle.desk_store.specs.Changes.{HasRisen, IsHonest, Remembers};
 ghost use Rattle.request_parser.specs.Requests.{asked as asked_in};
-ghost use Rattle.desk_run.specs.DeskWorld.{DeskWorld, world_of};
-ghost use Rattle.desk_wire.specs.Bytes.{makes_change_for, text_for, world_after};
-ghost use Rattle.desk_wire.specs.Passage.{course};
-ghost use Rattle.desk_record.specs.Reading.{entry_parts};
+ghost use Rattle.desk_run.specs.Verdicts.{DeskWorld, world_of};
+ghost use Rattle.desk_wire.specs.{Bytes.makes_change_for, Bytes.text_for, Bytes.world_after, Streams.course};
+ghost use Rattle.desk_record.specs.Record.{entry_parts};
 ghost use Rattle.desk_replay.specs.Replaying as spec;
-ghost use Rattle.desk_replay.specs.Replaying.{GivesOutcome, IsDeskFault, StaysSettled, StepsAt, asking_in, asking_shown, bytes_of, is_failure};
-ghost use Rattle.desk_replay.specs.Replaying.{progress_state, request_turn, requested, taken, answer_outcome};
+ghost use Rattle.desk_replay.specs.Replaying.{GivesOutcome, IsDeskFault, StaysSettled, StepsAt, asking_in, asking_shown, bytes_of, is_failure, progress_state, request_turn, requested, taken, answer_outcome};
 ghost use Rattle.desk_replay.specs.declared.fault.ReplayFault.TheVariants as replay_fault;
 
 use crate::fault::ReplayFault;

@@ -1,9 +1,8 @@
 //! How far a journal was replayed.
 
 ghost use Rattle.std.specs.Prelude.{◌≡◌};
-ghost use Rattle.desk_run.specs.DeskWorld.{DeskWorld};
-ghost use Rattle.desk_replay.specs.Replaying.{follows, progress_state};
-ghost use Rattle.desk_replay.specs.Running.{start};
+ghost use Rattle.desk_run.specs.Verdicts.{DeskWorld};
+ghost use Rattle.desk_replay.specs.{Replaying.follows, Replaying.progress_state, Running.start};
 
 use desk_rules::terms::Terms;
 use std::alloc::Global;

@@ -1,14 +1,11 @@
 //! A journal as a stream of entries, replayed one after the other.
 
 ghost use Rattle.std.specs.Prelude.{◌≡◌};
-ghost use Rattle.desk_store.specs.StoreFaults.{IsHonest};
-ghost use Rattle.desk_store.specs.StoreFrames.{Remembers};
-ghost use Rattle.desk_record.specs.Reading.{entry_parts};
-ghost use Rattle.desk_record.specs.Record.{entry};
-ghost use Rattle.desk_run.specs.DeskWorld.{world_of};
-ghost use Rattle.desk_wire.specs.Passage.{course};
-ghost use Rattle.desk_replay.specs.Replaying.{state_at};
-ghost use Rattle.desk_replay.specs.Running.{HasReplayed, Steps};
+ghost use Rattle.desk_store.specs.Changes.{IsHonest, Remembers};
+ghost use Rattle.desk_record.specs.Record.{entry_parts, entry};
+ghost use Rattle.desk_run.specs.Verdicts.{world_of};
+ghost use Rattle.desk_wire.specs.Streams.{course};
+ghost use Rattle.desk_replay.specs.{Replaying.state_at, Running.HasReplayed, Running.Steps};
 ghost use Rattle.desk_replay.specs.Running as spec;
 
 use crate::fault::ReplayFault;

@@ -1,9 +1,8 @@
 //! The settings at the beginning of a journal file: they are set at the desk that replays it.
 
 ghost use Rattle.std.specs.Prelude.{◌≡◌};
-ghost use Rattle.desk_store.specs.StoreFaults.{IsHonest};
-ghost use Rattle.desk_store.specs.StoreFrames.{Remembers};
-ghost use Rattle.desk_wire.specs.Passage.{course};
+ghost use Rattle.desk_store.specs.Changes.{IsHonest, Remembers};
+ghost use Rattle.desk_wire.specs.Streams.{course};
 ghost use Rattle.desk_replay.specs.Replaying.{StepsAt, begun, cell_limit_outcome, listed, permitted, span_limit_outcome};
 
 use crate::fault::ReplayFault;

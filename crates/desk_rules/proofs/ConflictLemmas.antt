@@ -9,19 +9,14 @@ use Rattle.std.specs.Cmp.{IsTotalOrder}
 use Rattle.std.proofs.lemmas.Cmp.{nat_cmp_total, int_cmp_total, on_total, then_total}
 use Rattle.s2_hilbert.specs.Curve.{position_of}
 use Rattle.s2_hilbert.proofs.lemmas.Curve.{same_leaf}
-use Rattle.s2_cellid.specs.Family.{leaf_id}
-use Rattle.volume4d.specs.Point.{Point, is_leaf, point_cmp}
-use Rattle.volume4d.specs.Volume.{Block, area_has}
-use Rattle.desk_rules.specs.LevelReached.{reaches}
-use Rattle.desk_rules.specs.Permission.{is_permitted, blocks, least_blocking}
+use Rattle.s2_cellid.specs.Cell.{leaf_id}
+use Rattle.volume4d.specs.Volume.{Point, is_leaf, point_cmp, Block, area_has}
+use Rattle.desk_rules.specs.Conflict.{reaches, AreSlabsOf, HoldLevels, HoldLevelsAmong, is_blocked_among, first_pair, is_blocked, IsConflict, first_point, point_of, conflict, at_least}
+use Rattle.desk_rules.specs.Limits.{is_permitted, blocks, least_blocking}
 use Rattle.volume4d.specs.declared.slab.Slab.{Slab}
 use Rattle.volume4d.specs.declared.slab.Held.{Held}
-use Rattle.volume4d.specs.Slab.{top_held, slabs_have}
-use Rattle.volume4d.specs.Shared.{is_shared}
-use Rattle.volume4d.specs.Meeting.{Spot, IsFirst, IsFirstPoint, IsFirstSpot}
-use Rattle.desk_rules.specs.Bridge.{AreSlabsOf, HoldLevels, HoldLevelsAmong, is_blocked_among}
-use Rattle.desk_rules.specs.Search.{first_pair}
-use Rattle.desk_rules.specs.Conflict.{is_blocked, IsConflict, first_point, point_of, conflict, at_least}
+use Rattle.volume4d.specs.Slab.{top_held, slabs_have, is_shared}
+use Rattle.volume4d.specs.Sweep.{Spot, IsFirst, IsFirstPoint, IsFirstSpot}
 use Rattle.volume4d.proofs.lemmas.Point.{leaf_test}
 use Rattle.volume4d.proofs.lemmas.Volume.{area_leaf}
 use Rattle.desk_rules.proofs.PointTests.{point_by_position}

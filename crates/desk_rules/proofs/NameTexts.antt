@@ -7,7 +7,7 @@ use Rattle.std.proofs.lemmas.Bool.{and_parts}
 use Rattle.std.proofs.lemmas.Bool.Decides.{nat_tests}
 use Rattle.std.proofs.lemmas.Str.{IsUtf8-from_ascii}
 use Rattle.std.proofs.lemmas.Str.Ascii.{IsAscii-nil, IsAscii-cons}
-use Rattle.desk_rules.specs.Name.{is_name_byte, is_operator_name}
+use Rattle.desk_rules.specs.Limits.{is_name_byte, is_operator_name}
 
 below_128 : (b : ℕ) → is_name_byte b ≡ true → b < 128
 below_128 b is = grind (arith, nat_tests)

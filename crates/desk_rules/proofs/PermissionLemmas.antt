@@ -5,8 +5,7 @@ use Rattle.std.specs.Prelude.{nat_le, nat_lt, slice_index_or}
 use Rattle.std.specs.List.{AllAdjacentBelow, IsAllAdjacentAnswer}
 use Rattle.std.proofs.lemmas.Bool.{and_parts}
 use Rattle.std.proofs.lemmas.Bool.Decides.{nat_tests}
-use Rattle.desk_rules.specs.Limits.{max_priority}
-use Rattle.desk_rules.specs.Permission.{are_in_range, are_ascending, is_permitted}
+use Rattle.desk_rules.specs.Limits.{max_priority, are_in_range, are_ascending, is_permitted}
 
 -- a permitted priority is one that a plan may have
 pub permitted_low : (permitted : List ℕ) (priority : ℕ) → are_in_range permitted ≡ true

@@ -2,7 +2,7 @@
 use Rattle.std.proofs.Common.{◌≡◌, true}
 use Rattle.s2_hilbert.specs.Curve.{position_of}
 use Rattle.s2_hilbert.proofs.lemmas.Curve.{leaf_undone}
-use Rattle.volume4d.specs.Point.{Point, is_leaf}
+use Rattle.volume4d.specs.Volume.{Point, is_leaf}
 use Rattle.volume4d.proofs.lemmas.Point.{leaf_test}
 use Rattle.desk_rules.specs.Conflict.{point_of}
 

@@ -10,12 +10,9 @@ use Rattle.std.proofs.lemmas.List.Sums.{sum_by-cons}
 use Rattle.s2_hilbert.specs.Grid.{GridLeaf}
 use Rattle.s2_hilbert.specs.Curve.{position_of}
 use Rattle.s2_hilbert.proofs.lemmas.Curve.{position_undone, position_below}
-use Rattle.s2_cellid.specs.Cell.{cell_has, leaf_id_at, first_leaf_id, last_leaf_id}
-use Rattle.s2_cellid.specs.Family.{leaf_id, cell_has_leaf}
-use Rattle.volume4d.specs.Point.{Point, is_leaf, point_cmp}
+use Rattle.s2_cellid.specs.Cell.{cell_has, leaf_id_at, first_leaf_id, last_leaf_id, leaf_id, cell_has_leaf}
+use Rattle.volume4d.specs.Volume.{Point, is_leaf, point_cmp, Shape, cells, rectangle, shape_has, Block, block_has, area_has}
 use Rattle.volume4d.proofs.lemmas.Point.{leaf_test}
-use Rattle.volume4d.specs.Shape.{Shape, cells, rectangle, shape_has}
-use Rattle.volume4d.specs.Volume.{Block, block_has, area_has}
 use Rattle.desk_rules.specs.Conflict.{leaf_reach, altitude_reach, second_reach, point_of}
 use Rattle.std.proofs.lemmas.Bool.{and_parts}
 use Rattle.desk_rules.proofs.SearchLemmas.{IsBelow, IsLess, IsWithinInt, IsLessInt, InBoth, BeforePair}

@@ -9,8 +9,7 @@ use Rattle.desk_rules.specs.declared.words.PlanStatus.{PlanStatus}
 use Rattle.desk_rules.specs.declared.transition.Step.TheVariants.{Check, Report}
 use Rattle.desk_rules.specs.declared.decide.Standing.{Standing}
 use Rattle.desk_rules.specs.Limits.{max_plans}
-use Rattle.desk_rules.specs.Outcome.{first_note, note_where, note_from, refusal_of, is_check, is_stored, has_ended, is_beyond_horizon}
-use Rattle.desk_rules.specs.States.{is_offered, step_from}
+use Rattle.desk_rules.specs.Outcome.{first_note, note_where, note_from, refusal_of, is_check, is_stored, has_ended, is_beyond_horizon, is_offered, step_from}
 
 -- a reason among the first four is first, whatever follows
 first_of_four : (a b c d e : Option Note) (n : Note) → first_note (a ∷ b ∷ c ∷ d ∷ []) ≡ Some n

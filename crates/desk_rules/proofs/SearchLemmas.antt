@@ -3,7 +3,7 @@ use Rattle.std.proofs.Common.{◌≡◌, ℕ, zero, suc, ◌+◌, ◌-◌, ◌<�
 use Rattle.std.specs.Prelude.{is_some}
 use Rattle.std.specs.Option.{option_map, option_and_then}
 use Rattle.std.proofs.lemmas.Int.{ints}
-use Rattle.desk_rules.specs.Search.{Finder, earlier_of, first_below, first_within, first_pair}
+use Rattle.desk_rules.specs.Conflict.{Finder, earlier_of, first_below, first_within, first_pair}
 
 -- what a search finds is in reach and passes, and nothing in reach before it does; where it finds nothing,
 -- nothing in reach passes

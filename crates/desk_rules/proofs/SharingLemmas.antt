@@ -3,13 +3,10 @@ use Rattle.std.proofs.Common.{◌≡◌, Bool, true, false, ◌&&◌, List, Opti
 use Rattle.std.specs.Prelude.{is_some}
 use Rattle.std.proofs.lemmas.Bool.{and_parts}
 use Rattle.volume4d.specs.declared.slab.Slab.{Slab}
-use Rattle.volume4d.specs.Point.{Point}
-use Rattle.volume4d.specs.Volume.{Block, area_has}
+use Rattle.volume4d.specs.Volume.{Point, Block, area_has}
 use Rattle.volume4d.specs.Slab.{slabs_have}
-use Rattle.volume4d.specs.Meeting.{IsFirstPoint}
-use Rattle.desk_rules.specs.Bridge.{AreSlabsOf}
-use Rattle.desk_rules.specs.Conflict.{first_point}
-use Rattle.desk_rules.specs.Sharing.{HaveAPoint, share_a_point}
+use Rattle.volume4d.specs.Sweep.{IsFirstPoint}
+use Rattle.desk_rules.specs.Conflict.{AreSlabsOf, first_point, HaveAPoint, share_a_point}
 use Rattle.desk_rules.proofs.ConflictLemmas.{first_point_is}
 
 -- what the search finds

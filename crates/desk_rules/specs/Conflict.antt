@@ -1,18 +1,45 @@
--- The conflict of a plan, by the strategic conflict detection of ASTM F3548-21: a plan may share
--- points with plans of lower priority, and not with those of higher priority. Those of equal priority
--- block it too, unless that priority is permitted.
-use Rattle.std.specs.Prelude.{ℕ, ◌+◌, ◌*◌, ◌^◌, ℤ, unsigned_abs, List, Bool, ◌&&◌, cond, Option, None}
-use Rattle.std.specs.Option.{option_map, option_and_then}
-use Rattle.std.specs.List.{sum_by}
+-- The conflict of a plan, and what slabs have to do with it.
+use Rattle.std.specs.Prelude.{ℕ, zero, suc, ◌+◌, ℤ, pos, ◌-ℤ◌, Bool, cond, Option, Some, None, is_some, false, nat_le, ◌*◌, ◌^◌, unsigned_abs, List, ◌&&◌, ◌≡◌, true}
+use Rattle.std.specs.{Option.option_map, Option.option_and_then, List.sum_by}
 use Rattle.s2_hilbert.specs.Curve.{grid_leaf_at}
 use Rattle.s2_cellid.specs.Cell.{last_leaf_id}
-use Rattle.volume4d.specs.Point.{Point}
-use Rattle.volume4d.specs.Shape.{Shape, cells, rectangle}
-use Rattle.volume4d.specs.Volume.{Block, area_has}
-use Rattle.desk_rules.specs.LevelReached.{reaches}
-use Rattle.desk_rules.specs.Permission.{blocks}
-use Rattle.volume4d.specs.Meeting.{Spot, IsFirst}
-use Rattle.desk_rules.specs.Search.{first_below, first_within, first_pair}
+use Rattle.volume4d.specs.{Volume.Point, Volume.Shape, Volume.cells, Volume.rectangle, Volume.Block, Volume.area_has, Sweep.Spot, Sweep.IsFirst, Slab.slabs_have, Slab.top_held}
+use Rattle.volume4d.specs.declared.slab.{Slab.Slab, Held.Held}
+use Rattle.desk_rules.specs.Limits.{blocks}
+
+-- a way to look for the first thing that passes
+abbrev pub Finder : Type 0 → Type 0
+Finder A = (A → Bool) → Option A
+
+-- the first if there is one, else the second
+abbrev pub earlier_of : {A : Type 0} → Option A → Option A → Option A
+earlier_of None b = b
+earlier_of (Some a) b = Some a
+
+-- among the numbers below n
+unfoldable pub first_below : ℕ → Finder ℕ
+first_below zero passes = None
+first_below (suc n) passes = earlier_of (first_below n passes) (cond (passes n) (Some n) None)
+
+-- among the whole numbers from -n to n
+unfoldable pub first_within : ℕ → Finder ℤ
+first_within n passes =
+    option_map (λ k. pos k -ℤ pos n) (first_below (n + n + 1) (λ k. passes (pos k -ℤ pos n)))
+
+-- among pairs, by the first part and then by the second
+unfoldable pub first_pair : {A B : Type 0} → Finder A → Finder B → Finder (A × B)
+first_pair in_a in_b passes =
+    option_and_then (λ a. option_map (λ b. (a, b)) (in_b (λ b. passes (a, b))))
+    (in_a (λ a. is_some (in_b (λ b. passes (a, b)))))
+
+-- whether a plan holds the point and the greatest priority held there is at least `priority`
+abbrev pub reaches : Option ℕ → ℕ → Bool
+reaches None priority = false
+reaches (Some level) priority = nat_le priority level
+
+-- ==== The conflict of a plan, by the strategic conflict detection of ASTM F3548-21: a plan may share points
+-- with plans of lower priority, and not with those of higher priority
+-- Those of equal priority block it too, unless that priority is permitted.
 
 -- a point of an area is blocked if the greatest priority that others hold there blocks the plan, by the
 -- list of permitted priorities
@@ -25,8 +52,7 @@ abbrev pub IsConflict : List ℕ → List Block → (Point → Option ℕ) → �
 IsConflict permitted area levels priority spot =
     IsFirst (is_blocked permitted area levels priority) levels spot
 
--- Three upper bounds, on the curve positions, the altitudes and the seconds of an area's points. They let the
--- search below end.
+-- Three upper bounds on curve positions, altitudes and seconds of an area's points let the search below end.
 abbrev pub leaf_reach : Shape → ℕ
 leaf_reach (cells ids) = sum_by (λ id. last_leaf_id id + 1) ids
 leaf_reach (rectangle r) = 6 * 2 ^ 60
@@ -58,3 +84,33 @@ conflict permitted area levels priority =
 -- the level, if there is one and it is at least the priority, and else None
 abbrev pub at_least : ℕ → Option ℕ → Option ℕ
 at_least priority level = cond (reaches level priority) level None
+
+-- there is a point that both areas have
+abbrev pub HaveAPoint : List Block → List Block → Type 0
+HaveAPoint area other = (x : Point) × (area_has area x ≡ true) × (area_has other x ≡ true)
+
+-- whether there is one: a search among the points of the first area finds a point that both have
+unfoldable pub share_a_point : List Block → List Block → Bool
+share_a_point area other = is_some (first_point area (λ x. area_has area x && area_has other x))
+
+-- ==== Slabs in place of areas and of the plans of others
+-- the slabs have exactly the area's points
+abbrev pub AreSlabsOf : List Slab → List Block → Type 0
+AreSlabsOf slabs area = (x : Point) → slabs_have slabs x ≡ area_has area x
+
+-- `levels` gives the greatest priority that other plans hold at a point. At each point of the area the
+-- greatest priority of the held slabs is that one if it is at least `priority`, and else None
+abbrev pub HoldLevels : List Held → List Block → (Point → Option ℕ) → ℕ → Type 0
+HoldLevels helds area levels priority =
+    (x : Point) → area_has area x ≡ true → top_held helds x ≡ at_least priority (levels x)
+
+-- the same at each point of the slabs: the greatest priority of the held slabs is the level there if that
+-- is at least `priority`, and else None
+abbrev pub HoldLevelsAmong : List Held → List Slab → (Point → Option ℕ) → ℕ → Type 0
+HoldLevelsAmong helds slabs levels priority =
+    (x : Point) → slabs_have slabs x ≡ true → top_held helds x ≡ at_least priority (levels x)
+
+-- a point of the slabs is blocked if the greatest priority that others hold there blocks the plan
+unfoldable pub is_blocked_among : List ℕ → List Slab → (Point → Option ℕ) → ℕ → Point → Bool
+is_blocked_among permitted slabs levels priority x =
+    slabs_have slabs x && blocks permitted priority (levels x)

@@ -1,13 +1,9 @@
 //! Conflicts of an area with stored plans, and points that two areas share.
 
 ghost use Rattle.std.specs.Prelude.{◌≡◌, ℕ, List, Option};
-ghost use Rattle.volume4d.specs.Point.{Point};
-ghost use Rattle.volume4d.specs.Volume.{Block};
-ghost use Rattle.volume4d.specs.Meeting.{IsFirst};
-ghost use Rattle.desk_rules.specs.Bridge.{AreSlabsOf, HoldLevels, HoldLevelsAmong, is_blocked_among};
-ghost use Rattle.desk_rules.specs.Conflict.{conflict};
-ghost use Rattle.desk_rules.specs.Permission.{least_blocking};
-ghost use Rattle.desk_rules.specs.Sharing as spec;
+ghost use Rattle.volume4d.specs.{Volume.Point, Volume.Block, Sweep.IsFirst};
+ghost use Rattle.desk_rules.specs.{Conflict.AreSlabsOf, Conflict.HoldLevels, Conflict.HoldLevelsAmong, Conflict.is_blocked_among, Conflict.conflict, Limits.least_blocking};
+ghost use Rattle.desk_rules.specs.Conflict as spec;
 
 use volume4d::{Held, Meeting, Slab, first_meeting, meet};
 

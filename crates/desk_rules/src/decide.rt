@@ -4,10 +4,9 @@ ghost use Rattle.std.specs.Prelude.{◌≡◌, ◌∷◌, [], ◌&&◌, None, po
 ghost use Rattle.std.specs.Option.{option_copied};
 ghost use Rattle.desk_rules.specs.declared.words.Note.TheVariants as notes;
 ghost use Rattle.desk_rules.specs.declared.words.PlanResult.TheVariants as results;
-ghost use Rattle.desk_rules.specs.Outcome.{outcome, outcome_under, has_ended, is_beyond_horizon, step_status, step_effect, styled_effect, note_from, first_note, note_where, refused_result, shown_conflict};
+ghost use Rattle.desk_rules.specs.Outcome.{outcome, outcome_under, has_ended, is_beyond_horizon, step_status, step_effect, styled_effect, note_from, first_note, note_where, refused_result, shown_conflict, status_in_use, is_offered};
 ghost use Rattle.desk_rules.specs.Limits.{max_plans, max_ahead};
-ghost use Rattle.desk_rules.specs.States as spec;
-ghost use Rattle.desk_rules.specs.States.{status_in_use, is_offered};
+ghost use Rattle.desk_rules.specs.Outcome as spec;
 
 use crate::plan::{PlanRow, PutCall, States, states_of};
 use crate::terms::Excess;

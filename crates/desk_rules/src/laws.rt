@@ -2,13 +2,9 @@
 //! does nothing.
 
 ghost use Rattle.std.specs.Prelude.{◌≡◌, ◌↔◌, ℕ, List, Option, true};
-ghost use Rattle.volume4d.specs.Point.{Point};
-ghost use Rattle.volume4d.specs.Volume.{Block};
-ghost use Rattle.volume4d.specs.Meeting.{Spot, IsFirst};
+ghost use Rattle.volume4d.specs.{Volume.Point, Volume.Block, Sweep.Spot, Sweep.IsFirst};
 ghost use Rattle.volume4d.specs.declared.slab.Slab.{Slab};
-ghost use Rattle.desk_rules.specs.Bridge.{AreSlabsOf, is_blocked_among};
-ghost use Rattle.desk_rules.specs.Conflict.{IsConflict, conflict};
-ghost use Rattle.desk_rules.specs.Sharing.{HaveAPoint, share_a_point};
+ghost use Rattle.desk_rules.specs.Conflict.{AreSlabsOf, is_blocked_among, IsConflict, conflict, HaveAPoint, share_a_point};
 
 /// An area has only one conflict: two spots that satisfy `IsConflict` for the same area, levels and
 /// priorities are equal.

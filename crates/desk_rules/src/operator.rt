@@ -2,9 +2,8 @@
 
 ghost use Rattle.std.specs.Prelude.{◌≡◌, ◌-◌, ◌≤◌, ◌++◌, Some, None, if◌then◌else◌, length, replicate, IsTrue};
 ghost use Rattle.std.specs.List.{list_all};
-ghost use Rattle.desk_rules.specs.Limits.{max_name_length};
-ghost use Rattle.desk_rules.specs.Name as spec;
-ghost use Rattle.desk_rules.specs.Name.{is_operator_name};
+ghost use Rattle.desk_rules.specs.Limits.{max_name_length, is_operator_name};
+ghost use Rattle.desk_rules.specs.Limits as spec;
 
 use std::cmp::Ordering;
 use std::marker::Model;
@@ -25,8 +24,7 @@ pub struct Operator {
 impl Model for Operator {
     ghost use Rattle.std.specs.Prelude.{◌≡◌, ℕ, ◌-◌, ◌≤◌, ◌++◌, List, length, take, replicate, IsTrue};
     ghost use Rattle.std.proofs.Common.{arith, sym, length-take-le};
-    ghost use Rattle.desk_rules.specs.Limits.{max_name_length};
-    ghost use Rattle.desk_rules.specs.Name.{is_operator_name};
+    ghost use Rattle.desk_rules.specs.Limits.{max_name_length, is_operator_name};
 
     ghost Value = { List ℕ };
 
@@ -87,8 +85,7 @@ impl fmt::Display for Operator {
 // Names are compared and ordered as texts, byte by byte.
 impl PartialEq for Operator {
     ghost use Rattle.std.specs.Prelude.{nat_eq};
-    ghost use Rattle.std.specs.Cmp.{partial_equiv_from_equiv};
-    ghost use Rattle.std.specs.Cmp.Lexicographic.{pointwise, nat_list_eq_equiv};
+    ghost use Rattle.std.specs.{Cmp.partial_equiv_from_equiv, Cmp.Lexicographic.pointwise, Cmp.Lexicographic.nat_list_eq_equiv};
 
     ghost eq = { λ a b. pointwise nat_eq a b };
 
@@ -107,8 +104,7 @@ impl Eq for Operator {
 
 impl PartialOrd for Operator {
     ghost use Rattle.std.specs.Prelude.{Some};
-    ghost use Rattle.std.specs.Ordering.{nat_cmp};
-    ghost use Rattle.std.specs.Cmp.Lexicographic.{slice_cmp, texts_po};
+    ghost use Rattle.std.specs.{Ordering.nat_cmp, Cmp.Lexicographic.slice_cmp, Cmp.Lexicographic.texts_po};
 
     ghost partial_cmp = { λ a b. Some (slice_cmp nat_cmp a b) };
 
@@ -121,8 +117,7 @@ impl PartialOrd for Operator {
 
 impl Ord for Operator {
     ghost use Rattle.std.specs.Prelude.{refl};
-    ghost use Rattle.std.specs.Ordering.{nat_cmp};
-    ghost use Rattle.std.specs.Cmp.Lexicographic.{slice_cmp, nat_list_cmp_total, texts_ties};
+    ghost use Rattle.std.specs.{Ordering.nat_cmp, Cmp.Lexicographic.slice_cmp, Cmp.Lexicographic.nat_list_cmp_total, Cmp.Lexicographic.texts_ties};
 
     ghost cmp = { λ a b. slice_cmp nat_cmp a b };
 

@@ -1,9 +1,8 @@
 //! The priorities at which plans of equal priority may share points.
 
 ghost use Rattle.std.specs.Prelude.{◌≡◌, ◌-◌, ◌≤◌, ◌++◌, length, replicate, IsTrue, []};
-ghost use Rattle.desk_rules.specs.Limits.{max_permitted, max_priority};
-ghost use Rattle.desk_rules.specs.Permission as spec;
-ghost use Rattle.desk_rules.specs.Permission.{is_permitted, permitted_in};
+ghost use Rattle.desk_rules.specs.Limits.{max_permitted, max_priority, is_permitted, permitted_in};
+ghost use Rattle.desk_rules.specs.Limits as spec;
 
 use crate::decide::MAX_PRIORITY;
 use std::error::Error;
@@ -37,8 +36,7 @@ pub enum PermitFault {
 
 impl Model for Permitted {
     ghost use Rattle.std.specs.Prelude.{◌≡◌, ℕ, ◌-◌, ◌≤◌, ◌++◌, List, length, take, replicate, IsTrue};
-    ghost use Rattle.desk_rules.specs.Limits.{max_permitted};
-    ghost use Rattle.desk_rules.specs.Permission.{are_in_range};
+    ghost use Rattle.desk_rules.specs.Limits.{max_permitted, are_in_range};
 
     ghost Value = { List ℕ };
 
@@ -100,7 +98,7 @@ impl Permitted {
 // The fault as a sentence.
 impl fmt::Display for PermitFault {
     ghost use Rattle.std.specs.Prelude.{Some};
-    ghost use Rattle.desk_rules.specs.Permission.{permit_fault_text};
+    ghost use Rattle.desk_rules.specs.Limits.{permit_fault_text};
 
     ghost output = { λ fault. Some (permit_fault_text fault) };
 

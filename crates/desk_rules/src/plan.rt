@@ -3,8 +3,8 @@
 ghost use Rattle.std.specs.Prelude.{◌≡◌, ◌*◌, ◌≤◌, IfOk};
 ghost use Rattle.std.specs.Option.{option_copied};
 ghost use Rattle.volume4d.specs.VolumeLimits.{max_cover, max_volumes};
-ghost use Rattle.desk_rules.specs.Plan.{row_cells, row_spans};
-ghost use Rattle.desk_rules.specs.States as spec;
+ghost use Rattle.desk_rules.specs.Outcome.{row_cells, row_spans};
+ghost use Rattle.desk_rules.specs.Outcome as spec;
 
 use crate::plan_id::PlanId;
 use crate::words::{Aircraft, Style, Usage};

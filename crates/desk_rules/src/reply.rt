@@ -1,7 +1,7 @@
 //! Replies of the desk.
 
 ghost use Rattle.std.specs.Prelude.{◌≡◌, IfOk};
-ghost use Rattle.desk_rules.specs.Replies.{said_in};
+ghost use Rattle.desk_rules.specs.Outcome.{said_in};
 
 use crate::plan::PlanRow;
 use crate::words::{Note, PlanResult, PlanStatus};

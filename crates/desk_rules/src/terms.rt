@@ -1,8 +1,8 @@
 //! The terms of a desk: its settings.
 
 ghost use Rattle.std.specs.Prelude.{◌≡◌};
-ghost use Rattle.desk_rules.specs.Terms as spec;
-ghost use Rattle.desk_rules.specs.Terms.{excess_of, no_excess, no_terms};
+ghost use Rattle.desk_rules.specs.Outcome as spec;
+ghost use Rattle.desk_rules.specs.Outcome.{excess_of, no_excess, no_terms};
 
 use crate::permission::Permitted;
 

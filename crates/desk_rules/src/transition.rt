@@ -2,7 +2,7 @@
 
 ghost use Rattle.std.specs.Prelude.{◌≡◌};
 ghost use Rattle.std.specs.Option.{option_copied};
-ghost use Rattle.desk_rules.specs.States.{step_of, step_from, step_from_none, step_from_planned, step_from_use, step_from_contingency, step_from_closed, step_from_states};
+ghost use Rattle.desk_rules.specs.Outcome.{step_of, step_from, step_from_none, step_from_planned, step_from_use, step_from_contingency, step_from_closed, step_from_states};
 
 use crate::plan::{PlanRow, PutCall, States, states_of};
 use crate::words::{Aircraft, Note, PlanStatus, Usage};

@@ -2,7 +2,7 @@
 //! refusals.
 
 ghost use Rattle.std.specs.Prelude.{◌≡◌};
-ghost use Rattle.desk_rules.specs.Plan as spec;
+ghost use Rattle.desk_rules.specs.Outcome as spec;
 
 /// The use that an operator makes of a plan, `usage_state` of flight_planning v1.
 #[derive(Clone, Copy, Debug, PartialEq, Eq)]

@@ -6,19 +6,18 @@ use Rattle.desk_rules.specs.declared.plan.PutCall.{PutCall}
 use Rattle.desk_rules.specs.declared.plan.States.{States}
 use Rattle.desk_rules.specs.declared.decide.Standing.{Standing}
 use Rattle.desk_rules.specs.declared.terms.Terms.{Terms}
-use Rattle.desk_rules.specs.States.{states_of}
+use Rattle.desk_rules.specs.Outcome.{states_of, outcome_under, ReplyParts, said_in}
 use Rattle.desk_rules.specs.declared.words.PlanResult.TheVariants as result
 use Rattle.desk_rules.specs.declared.words.PlanStatus.TheVariants as status
 use Rattle.desk_rules.specs.declared.decide.Verdict.{Verdict}
 use Rattle.desk_rules.specs.declared.decide.Effect.{Effect}
 use Rattle.desk_rules.specs.declared.decide.Effect.TheVariants as effect
-use Rattle.volume4d.specs.Meeting.{Spot}
+use Rattle.volume4d.specs.Sweep.{Spot}
 use Rattle.desk_rules.specs.Conflict.{conflict}
-use Rattle.desk_rules.specs.Outcome.{outcome_under}
 use Rattle.desk_rules.specs.Limits.{max_priority}
 use Rattle.desk_store.specs.declared.change.Change.{Change}
 use Rattle.desk_store.specs.declared.change.Change.TheVariants as change
-use Rattle.desk_store.specs.StoreChange.{changed_by, IsFitting}
+use Rattle.desk_store.specs.Changes.{changed_by, IsFitting}
 use Rattle.desk_store.specs.World.{World, own, held, held_at, ceiling_of, plans_of, stored_of}
 use Rattle.volume4d.specs.Volume.{Block}
 use Rattle.desk_rules.specs.declared.call.Call.{Call}
@@ -29,12 +28,10 @@ use Rattle.desk_run.specs.declared.fault.DeskFault.TheVariants.{OutOfMemory, Sto
 use Rattle.desk_rules.specs.declared.reply.Reply.TheVariants as reply
 use Rattle.desk_rules.specs.declared.reply.Reply.{Reply}
 use Rattle.desk_rules.specs.declared.reply.Shown.{Shown}
-use Rattle.desk_rules.specs.Replies.{ReplyParts, said_in}
-use Rattle.desk_rules.specs.Replies as said
+use Rattle.desk_rules.specs.Outcome as said
 use Rattle.desk_rules.specs.declared.reply.PutReply.{PutReply}
 use Rattle.desk_run.specs.declared.pending.Pending.{Pending}
-use Rattle.desk_run.specs.DeskWorld.{DeskWorld, held_in}
-use Rattle.desk_run.specs.Verdicts.{Reported, Ruling, replied, unknown_operator, no_such_plan, ruling_alone, excess_asked, put_outcome, put_ruling, plans_left, delete_ruling, shown_in, list_ruling, show_ruling, clear_ruling, enrolled_ruling, ruling_under, verdict, world_with_plans, ruling_in, makes_change, reported_to, step}
+use Rattle.desk_run.specs.Verdicts.{DeskWorld, held_in, Reported, Ruling, replied, unknown_operator, no_such_plan, ruling_alone, excess_asked, put_outcome, put_ruling, plans_left, delete_ruling, shown_in, list_ruling, show_ruling, clear_ruling, enrolled_ruling, ruling_under, verdict, world_with_plans, ruling_in, makes_change, reported_to, step}
 use Rattle.desk_run.specs.Calls.{HasNoReply, IsPendingAs, IsPreparedFor, IsPending, Prepares, change_after, world_with, world_committed}
 use Rattle.desk_run.proofs.OutcomeLemmas.{outcome_counts}
 use Rattle.desk_run.proofs.PutLemmas.{change_fits}

@@ -13,25 +13,26 @@ use Rattle.std.proofs.lemmas.List.Kept.{IsStrictlySortedBy-filter}
 use Rattle.std.proofs.lemmas.Map.Keys.{IsDistinct-from_sorted}
 use Rattle.std.proofs.Math.Bool.{or-false}
 use Rattle.volume4d.specs.declared.slab.Slab.{Slab}
-use Rattle.volume4d.specs.Point.{Point}
+use Rattle.volume4d.specs.Volume.{Point, Block, block_has}
 use Rattle.volume4d.specs.Slab.{slabs_have}
-use Rattle.volume4d.specs.Volume.{Block, block_has}
-use Rattle.desk_rules.specs.Bridge.{AreSlabsOf}
+use Rattle.desk_rules.specs.Conflict.{AreSlabsOf}
 use Rattle.desk_rules.specs.declared.plan.PlanRow.{PlanRow}
 use Rattle.desk_rules.specs.declared.reply.Reply.TheVariants as reply
 use Rattle.desk_rules.specs.Limits.{max_plans}
-use Rattle.desk_rules.specs.Replies as said
+use Rattle.desk_rules.specs.Outcome as said
 use Rattle.desk_store.specs.declared.change.Change.{Change}
 use Rattle.desk_store.specs.declared.change.Change.TheVariants as change
-use Rattle.desk_store.specs.ChangeParts.{parts_in, clear}
-use Rattle.desk_store.specs.StoreChange.{changed_by, IsFitting}
-use Rattle.desk_store.specs.World.{World, AreInOrder, text_cmp, row_cmp, has_id, ceiling_of, plans_of, stored_of}
-use Rattle.desk_store.specs.Changes.{is_named, clear_rows, with_plans, AreStored, AreDistinct}
+use Rattle.desk_store.specs.Changes.{parts_in, clear, changed_by, IsFitting, is_named, clear_rows, with_plans, AreStored, AreDistinct}
+use Rattle.desk_store.specs.World.{World, text_cmp, row_cmp, has_id, ceiling_of, plans_of, stored_of}
 use Rattle.desk_store.proofs.lemmas.Order.{all_weaker, all_filter, all_map, sorted_map}
 use Rattle.desk_store.proofs.lemmas.World.{fewer}
 use Rattle.desk_run.specs.Verdicts.{replied, is_in, clear_ruling}
 use Rattle.desk_run.specs.declared.pending.Pending.{Pending}
 use Rattle.desk_run.specs.Calls.{ids_in, IsClearing, IsPendingAs}
+
+-- an operator's plans ascend by id, and no two have one id
+abbrev pub AreInOrder : List PlanRow → Type 0
+AreInOrder rows = IsStrictlySortedBy row_cmp rows
 
 -- an extent's ids, plan by plan
 ids_append : (extent : Block) (rows : List PlanRow) (row : PlanRow)

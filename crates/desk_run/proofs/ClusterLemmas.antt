@@ -4,9 +4,8 @@ use Rattle.std.specs.List.{All}
 use Rattle.std.proofs.lemmas.List.Elements.{All-drop}
 use Rattle.std.proofs.lemmas.List.Sorted.{IsNonDecreasingBy-drop}
 use Rattle.volume4d.specs.declared.slab.Slab.{Slab}
-use Rattle.volume4d.specs.Bounds.{IsFilled}
+use Rattle.volume4d.specs.Slab.{IsFilled, IsCluster}
 use Rattle.volume4d.specs.Sweep.{Ascend}
-use Rattle.volume4d.specs.Clusters.{IsCluster}
 
 module _ (slabs cluster later : List Slab) (split : IsCluster slabs cluster later) where
   pub later_filled : All IsFilled slabs → All IsFilled later

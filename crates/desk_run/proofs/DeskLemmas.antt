@@ -1,16 +1,13 @@
 -- What a change of its store leaves of a desk.
 use Rattle.std.proofs.Common.{◌≡◌, ◌∙◌, Some, None, Result, Ok, Err, inl, refl, ap, subst}
 use Rattle.std.specs.Result.{IsErrAnd}
-use Rattle.desk_store.specs.World.{World}
+use Rattle.desk_store.specs.World.{World, LeavesOldOr, LeavesOnly}
 use Rattle.desk_store.specs.declared.store.PlanStore.{Ghosts}
 use Rattle.desk_store.specs.declared.fault.StoreFault.{StoreFault}
 use Rattle.desk_store.specs.declared.fault.StoreFault.TheVariants as store
-use Rattle.desk_store.specs.Crashes.{LeavesOldOr, LeavesOnly}
-use Rattle.desk_store.specs.StoreFaults.{HasRisen, IsCounted, IsHonest}
-use Rattle.desk_store.specs.StoreFrames.{Remembers}
-use Rattle.desk_run.specs.CallFaults.{fault_of}
-use Rattle.desk_run.specs.DeskFrames.{Leaves, fault_in}
-use Rattle.desk_run.specs.DeskWorld.{Parts, with_content, world_of}
+use Rattle.desk_store.specs.Changes.{HasRisen, IsCounted, IsHonest, Remembers}
+use Rattle.desk_run.specs.Calls.{fault_of, Leaves, fault_in}
+use Rattle.desk_run.specs.Verdicts.{Parts, with_content, world_of}
 use Rattle.desk_run.specs.declared.fault.DeskFault.{DeskFault}
 use Rattle.desk_run.specs.declared.fault.DeskFault.TheVariants.{Store}
 

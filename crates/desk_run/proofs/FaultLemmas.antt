@@ -4,7 +4,7 @@ use Rattle.desk_store.specs.declared.fault.StoreFault.{StoreFault}
 use Rattle.desk_store.specs.declared.fault.StoreFault.TheVariants as store
 use Rattle.desk_run.specs.declared.fault.DeskFault.{DeskFault}
 use Rattle.desk_run.specs.declared.fault.DeskFault.TheVariants.{Ceiling}
-use Rattle.desk_run.specs.CallFaults.{fault_of}
+use Rattle.desk_run.specs.Calls.{fault_of}
 
 pub never_ceiling : {T : Type 0} (fault : StoreFault)
     → ◌≡◌ {A = Result T DeskFault} (Err (fault_of fault)) (Err Ceiling) → ⊥

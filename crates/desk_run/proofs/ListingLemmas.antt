@@ -11,18 +11,14 @@ use Rattle.std.proofs.lemmas.List.Sorted.{IsNonDecreasingBy-drop, IsNonDecreasin
 use Rattle.s2_hilbert.specs.Curve.{position_of}
 use Rattle.volume4d.specs.declared.slab.Slab.{Slab}
 use Rattle.volume4d.specs.declared.slab.Held.{Held}
-use Rattle.volume4d.specs.Point.{Point, is_leaf}
-use Rattle.volume4d.specs.Volume.{Block, area_has, block_has}
-use Rattle.volume4d.specs.Slab.{slab_has, slab_has_leaf, slabs_have, top_held}
-use Rattle.volume4d.specs.Level.{greater, level_where}
+use Rattle.volume4d.specs.Volume.{Point, is_leaf, Block, area_has, block_has}
+use Rattle.volume4d.specs.Slab.{slab_has, slab_has_leaf, slabs_have, top_held, greater, level_where, AreFilled, IsBounds, IsFilled, overlap, IsCluster}
 use Rattle.volume4d.proofs.lemmas.Level.{greater_none, greater_assoc, top_held-push, top_held-nil}
-use Rattle.volume4d.specs.Bounds.{AreFilled, IsBounds, IsFilled, overlap}
 use Rattle.volume4d.proofs.lemmas.Bounds.{overlapping}
-use Rattle.volume4d.specs.Clusters.{IsCluster}
 use Rattle.volume4d.specs.Sweep.{Ascend}
 use Rattle.desk_rules.specs.declared.plan.PlanRow.{PlanRow}
 use Rattle.desk_rules.specs.Conflict.{at_least}
-use Rattle.desk_rules.specs.Plan.{is_live, row_holds, top_priority}
+use Rattle.desk_rules.specs.Outcome.{is_live, row_holds, top_priority}
 use Rattle.desk_rules.proofs.lemmas.Plan.{top_priority-cons, top_priority-nil}
 use Rattle.desk_rules.specs.declared.reply.Shown.{Shown}
 use Rattle.desk_store.specs.World.{World, has_id, held, held_at, plans_of}

@@ -12,9 +12,8 @@ use Rattle.desk_rules.specs.declared.words.Aircraft.{Aircraft}
 use Rattle.desk_rules.specs.declared.words.Aircraft.TheVariants as aircraft
 use Rattle.desk_rules.specs.declared.transition.Step.{Step}
 use Rattle.desk_rules.specs.declared.transition.Step.TheVariants.{Refuse, Check, Report, Shut, Keep}
-use Rattle.volume4d.specs.Meeting.{Spot}
-use Rattle.desk_rules.specs.States.{step_from, step_from_none, step_from_planned, step_from_use, step_from_contingency, step_from_closed, step_from_states, is_offered}
-use Rattle.desk_rules.specs.Outcome.{outcome_under, note_from, first_note, note_where, refusal_of, is_check, has_ended, is_beyond_horizon, is_stored, shown_conflict, verdict_from}
+use Rattle.volume4d.specs.Sweep.{Spot}
+use Rattle.desk_rules.specs.Outcome.{step_from, step_from_none, step_from_planned, step_from_use, step_from_contingency, step_from_closed, step_from_states, is_offered, outcome_under, note_from, first_note, note_where, refusal_of, is_check, has_ended, is_beyond_horizon, is_stored, shown_conflict, verdict_from}
 use Rattle.desk_rules.specs.Limits.{max_plans}
 
 -- the number of an operator's plans counts only if no plan is stored

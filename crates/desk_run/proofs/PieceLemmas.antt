@@ -12,16 +12,13 @@ use Rattle.s2_hilbert.specs.Curve.{position_of}
 use Rattle.s2_cellid.specs.Cell.{leaf_id_at}
 use Rattle.volume4d.specs.declared.slab.Slab.{Slab}
 use Rattle.volume4d.specs.declared.slab.Held.{Held}
-use Rattle.volume4d.specs.Point.{Point, is_leaf, point_cmp}
-use Rattle.volume4d.specs.Slab.{slab_has, slab_has_leaf, slabs_have, top_held}
-use Rattle.volume4d.specs.Level.{greater, level_where}
+use Rattle.volume4d.specs.Volume.{Point, is_leaf, point_cmp}
+use Rattle.volume4d.specs.Slab.{slab_has, slab_has_leaf, slabs_have, top_held, greater, level_where, HasAll}
 use Rattle.volume4d.proofs.lemmas.Level.{top_held-nil, top_held-push}
-use Rattle.volume4d.specs.Bounds.{HasAll}
-use Rattle.volume4d.specs.Meeting.{Spot, IsFirst}
-use Rattle.desk_rules.specs.Permission.{blocks}
-use Rattle.desk_rules.specs.Bridge.{is_blocked_among}
-use Rattle.desk_rules.specs.Conflict.{at_least}
-use Rattle.desk_run.specs.Pieces.{IsCutTo, at_piece}
+use Rattle.volume4d.specs.Sweep.{Spot, IsFirst}
+use Rattle.desk_rules.specs.Limits.{blocks}
+use Rattle.desk_rules.specs.Conflict.{is_blocked_among, at_least}
+use Rattle.desk_run.specs.HeldAmong.{IsCutTo, at_piece}
 
 -- ---- leaves of a slab
 

@@ -20,13 +20,11 @@ use Rattle.desk_rules.specs.declared.transition.Step.{Step}
 use Rattle.desk_rules.specs.declared.transition.Step.TheVariants.{Refuse, Check, Report, Shut, Keep}
 use Rattle.desk_rules.specs.declared.decide.Effect.{Effect}
 use Rattle.desk_rules.specs.declared.decide.Effect.TheVariants as effect
-use Rattle.volume4d.specs.Meeting.{Spot}
-use Rattle.desk_rules.specs.States.{states_of, step_from, step_from_none, is_offered}
-use Rattle.desk_rules.specs.Outcome.{outcome_under, note_from, first_note, note_where, refusal_of, is_check, has_ended, is_beyond_horizon, is_stored, step_effect, styled_effect, verdict_from}
+use Rattle.volume4d.specs.Sweep.{Spot}
+use Rattle.desk_rules.specs.Outcome.{states_of, step_from, step_from_none, is_offered, outcome_under, note_from, first_note, note_where, refusal_of, is_check, has_ended, is_beyond_horizon, is_stored, step_effect, styled_effect, verdict_from}
 use Rattle.desk_rules.specs.Limits.{max_plans, max_priority}
 use Rattle.desk_store.specs.World.{World, ceiling_of, stored_of, plans_of}
-use Rattle.desk_store.specs.Changes.{HasRoom}
-use Rattle.desk_store.specs.StoreChange.{IsFitting}
+use Rattle.desk_store.specs.Changes.{HasRoom, IsFitting}
 use Rattle.desk_run.specs.Calls.{IsFittingIf, change_after}
 
 no_first : (x : Option Note) (xs : List (Option Note)) → first_note (x ∷ xs) ≡ None → (x ≡ None)

@@ -3,17 +3,14 @@ use Rattle.std.proofs.Common.{◌≡◌, ℕ, ℤ, ◌+◌, ◌<◌, List, [], �
 use Rattle.std.proofs.lemmas.List.{take_more, map-append, length-append}
 use Rattle.desk_store.specs.World.{World}
 use Rattle.desk_store.specs.declared.store.PlanStore.{Ghosts}
-use Rattle.desk_store.specs.StoreFaults.{IsHonest}
-use Rattle.desk_run.specs.DeskFrames.{Leaves, fault_in}
-use Rattle.desk_run.specs.DeskWorld.{DeskWorld, IsSettled, Parts, world_of}
+use Rattle.desk_store.specs.Changes.{IsHonest}
+use Rattle.desk_run.specs.Calls.{Leaves, fault_in, ReportsReply, IsFoundIn, reported_in, world_after_calls, as_reported, call_outcome}
+use Rattle.desk_run.specs.Verdicts.{DeskWorld, IsSettled, Parts, world_of, reported_to, step}
 use Rattle.desk_rules.specs.declared.call.Asked.{Asked}
 use Rattle.desk_rules.specs.declared.reply.Reply.{Reply}
 use Rattle.desk_run.specs.declared.fault.DeskFault.{DeskFault}
 use Rattle.desk_run.specs.declared.fault.DeskFault.TheVariants.{OutOfMemory, Store, UnknownOperator, NoSuchPlan, Ceiling}
 use Rattle.desk_run.specs.declared.run.Outcome.{Outcome}
-use Rattle.desk_run.specs.Verdicts.{reported_to, step}
-use Rattle.desk_run.specs.Calls.{ReportsReply}
-use Rattle.desk_run.specs.Runs.{IsFoundIn, reported_in, world_after_calls, as_reported, call_outcome}
 
 -- the first calls are answered
 pub record AreAnswered (w : DeskWorld) (calls : List (ℤ × Asked)) (n : ℕ) (outcomes : List Outcome)

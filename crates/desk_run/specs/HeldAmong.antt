@@ -1,18 +1,21 @@
--- What an operator's plans hold among each other, and what others hold where they lie.
-use Rattle.std.specs.Prelude.{◌≡◌, ℕ, Bool, true, false, not, ◌&&◌, nat_le, List, Option, All}
+-- What plans hold among each other and against others, part by part.
+use Rattle.std.specs.Prelude.{ℕ, List, Option, ◌≡◌, Bool, true, false, not, ◌&&◌, nat_le, All, ◌≤◌, cond, max, min, None}
 use Rattle.std.specs.List.{filter, list_any}
-use Rattle.volume4d.specs.declared.slab.Slab.{Slab}
-use Rattle.volume4d.specs.declared.slab.Held.{Held}
-use Rattle.volume4d.specs.Point.{Point}
-use Rattle.volume4d.specs.Slab.{slabs_have, top_held}
-use Rattle.volume4d.specs.Level.{greater, level_where}
-use Rattle.volume4d.specs.Bounds.{HasAll, IsFilled}
-use Rattle.volume4d.specs.Sweep.{Ascend}
 use Rattle.s2_hilbert.specs.Curve.{position_of}
+use Rattle.volume4d.specs.declared.slab.{Slab.Slab, Held.Held}
+use Rattle.volume4d.specs.{Sweep.Spot, Sweep.IsFirst, Sweep.Ascend, Volume.Point, Slab.slabs_have, Slab.top_held, Slab.greater, Slab.level_where, Slab.HasAll, Slab.IsFilled, Slab.slab_has_leaf, Slab.slab_window}
+use Rattle.desk_rules.specs.{Conflict.is_blocked_among, Outcome.row_holds, Outcome.top_priority}
 use Rattle.desk_rules.specs.declared.plan.PlanRow.{PlanRow}
-use Rattle.desk_rules.specs.Plan.{row_holds, top_priority}
-use Rattle.desk_store.specs.World.{has_id}
+use Rattle.desk_store.specs.World.{World, plans_of, held, held_at, has_id}
 
+-- `spot` is the first point of `slabs` that other plans of `w` block, with the greatest priority that they
+-- hold there; or none, if none is blocked. The slabs are those of the operator's plan `id` with this priority
+abbrev pub IsFirstAmong : List ℕ → World → List ℕ → List ℕ → List Slab → ℕ → Option Spot → Type 0
+IsFirstAmong permitted w operator id slabs priority spot =
+    let levels = held_at (plans_of operator w) (held w operator) id in
+    IsFirst (is_blocked_among permitted slabs levels priority) levels spot
+
+-- ==== What an operator's plans hold among each other, and what others hold where they lie
 -- the slabs together have each point that passes the test
 abbrev pub HaveAll : (Point → Bool) → List Slab → Type 0
 HaveAll passes slabs = (x : Point) → passes x ≡ true → slabs_have slabs x ≡ true
@@ -60,3 +63,37 @@ own_top id rows x = top_priority (filter (λ r. not (has_id id r)) rows) x
 abbrev pub AreAfter : ℕ → List Slab → Type 0
 AreAfter position slabs =
     (x : Point) → slabs_have slabs x ≡ true → nat_le (position_of x.leaf) position ≡ false
+
+-- ==== Pieces of the leaves that slabs lie at, one after the other
+-- `piece` has the leaves of the slab `whole` from a position on, up to the last or to an earlier one
+pub record IsPiece (whole : Slab) (position : ℕ) (piece : Slab) : Type 0 where
+  pub begins : piece.first ≡ position
+  pub some : position ≤ whole.last → position ≤ piece.last
+  pub within : piece.last ≤ whole.last
+
+-- `cut` is `slab` with those of its leaves that `piece` has
+pub record IsCutTo (slab piece cut : Slab) : Type 0 where
+  pub first : cut.first ≡ max slab.first piece.first
+  pub last : cut.last ≡ min slab.last piece.last
+  pub window : slab_window cut ≡ slab_window slab
+
+-- the level at a point whose leaf is one of the piece, and none at every other point
+abbrev pub at_piece : Slab → (Point → Option ℕ) → Point → Option ℕ
+at_piece piece levels x = cond (slab_has_leaf piece x.leaf) (levels x) None
+
+-- the held slabs `cut` hold at the leaves of `piece` what `helds` hold there, and nothing elsewhere
+abbrev pub AreCut : Slab → List Held → List Held → Type 0
+AreCut piece helds cut = (x : Point) → top_held cut x ≡ at_piece piece (top_held helds) x
+
+-- the extents together have each point at the leaves of `piece` that passes the test
+abbrev pub HavePart : (Point → Bool) → Slab → List Slab → Type 0
+HavePart passes piece extents =
+    (x : Point) → passes x ≡ true → slab_has_leaf piece x.leaf ≡ true → slabs_have extents x ≡ true
+
+-- `spot` is the first point of `slabs` at the leaves of `piece` that other plans of the world `w` block, with
+-- the greatest priority that they hold there; or none, if none is blocked. The slabs are those of the
+-- operator's plan `id` with this priority
+abbrev pub IsFirstBlockedAt : List ℕ → World → List ℕ → List ℕ → List Slab → Slab → ℕ → Option Spot → Type 0
+IsFirstBlockedAt permitted w operator id slabs piece priority spot =
+    let levels = at_piece piece (held_at (plans_of operator w) (held w operator) id) in
+    IsFirst (is_blocked_among permitted slabs levels priority) levels spot

@@ -1,38 +1,80 @@
--- Verdicts: what a desk answers to a call, and what it leaves, by the desk's terms, what the operator owns
--- and what others hold.
-use Rattle.std.specs.Prelude.{ℕ, ℤ, ◌+◌, length, List, [], ◌∷◌, map, Bool, not, cond, is_some, Option, Some, None}
-use Rattle.std.specs.List.{filter, list_any}
-use Rattle.std.specs.Option.{unwrap_or}
-use Rattle.desk_rules.specs.declared.plan.PlanRow.{PlanRow}
-use Rattle.desk_rules.specs.declared.plan.PutCall.{PutCall}
+-- Desks: what one answers to a call, and what the call leaves.
+use Rattle.std.specs.Prelude.{◌≡◌, ◌⊎◌, ℕ, List, [], Option, refl, ℤ, ◌+◌, length, ◌∷◌, map, Bool, not, cond, is_some, Some, None}
+use Rattle.std.specs.{Coded.Coded, Coded.code_by, Coded.coded×, Coded.coded_list, Coded.coded_option, Coded.coded_ℕ, List.filter, List.list_any, Option.unwrap_or}
+use Rattle.volume4d.specs.{Volume.Point, Volume.Block, Volume.area_cells, Volume.area_spans, Sweep.Spot}
+use Rattle.desk_rules.specs.declared.{terms.Terms.Terms, terms.Excess.Excess, plan.PlanRow.PlanRow, plan.PutCall.PutCall, decide.Standing.Standing, decide.Verdict.Verdict, decide.Effect.Effect, call.Asked.Asked, call.Call.Call, reply.Shown.Shown}
+use Rattle.desk_rules.specs.{Outcome.no_terms, Outcome.is_live, Outcome.states_of, Outcome.status_of, Outcome.excess_of, Outcome.outcome_under, Outcome.ReplyParts, Conflict.conflict, Conflict.share_a_point}
 use Rattle.desk_rules.specs.declared.words.PlanResult.TheVariants as result
 use Rattle.desk_rules.specs.declared.words.PlanStatus.TheVariants as status
-use Rattle.desk_rules.specs.declared.decide.Standing.{Standing}
-use Rattle.desk_rules.specs.declared.decide.Verdict.{Verdict}
-use Rattle.desk_rules.specs.declared.terms.Terms.{Terms}
-use Rattle.desk_rules.specs.declared.decide.Effect.{Effect}
 use Rattle.desk_rules.specs.declared.decide.Effect.TheVariants as effect
-use Rattle.volume4d.specs.Point.{Point}
-use Rattle.volume4d.specs.Meeting.{Spot}
-use Rattle.volume4d.specs.Volume.{Block}
-use Rattle.desk_rules.specs.Plan.{is_live}
-use Rattle.desk_rules.specs.States.{states_of, status_of}
-use Rattle.desk_rules.specs.declared.terms.Excess.{Excess}
-use Rattle.desk_rules.specs.Terms.{excess_of}
-use Rattle.volume4d.specs.SpanCounts.{area_cells, area_spans}
-use Rattle.desk_rules.specs.Conflict.{conflict}
-use Rattle.desk_rules.specs.Sharing.{share_a_point}
-use Rattle.desk_rules.specs.Outcome.{outcome_under}
-use Rattle.desk_rules.specs.declared.call.Asked.{Asked}
-use Rattle.desk_rules.specs.declared.call.Call.{Call}
 use Rattle.desk_rules.specs.declared.call.Call.TheVariants as call
-use Rattle.desk_rules.specs.declared.reply.Shown.{Shown}
-use Rattle.desk_rules.specs.Replies as said
-use Rattle.desk_rules.specs.Replies.{ReplyParts}
-use Rattle.desk_store.specs.World.{World, Own, own, held, held_at, cells_beside, plans_of, spans_beside, stored_of}
-use Rattle.desk_store.specs.Changes.{put_row, close_row, with_plans}
-use Rattle.desk_run.specs.DeskWorld.{DeskWorld, Side, held_in}
+use Rattle.desk_rules.specs.Outcome as said
+use Rattle.desk_store.specs.World.{World, Own, own, held, LeavesNoMore, LeavesOnly, held_at, cells_beside, plans_of, spans_beside, stored_of}
+use Rattle.desk_store.specs.Changes.{with_operator, put_row, close_row, with_plans}
 
+-- the parts of a desk: its store and its terms
+pub record Parts (S : Type 0) : Type 0 where
+  pub store : S
+  pub terms : Terms
+
+-- terms, and parts of a desk, as codes, which the model of `Desk` needs
+abbrev pub terms_code : Coded Terms
+terms_code =
+    code_by (List ℕ × (Option ℕ × Option ℕ))
+    (coded× (coded_list coded_ℕ) (coded× (coded_option coded_ℕ) (coded_option coded_ℕ)))
+    (λ t. (t.permitted, (t.spans, t.cells))) (λ p. record { permitted = p.0; spans = p.1.0; cells = p.1.1 })
+    (λ _. refl)
+
+abbrev pub parts_code : {S : Type 0} → Coded S → Coded (Parts S)
+parts_code {S} store =
+    code_by (S × Terms) (coded× store terms_code) (λ d. (d.store, d.terms))
+    (λ p. record { store = p.0; terms = p.1 }) (λ _. refl)
+
+-- a desk's world: the content of its store, and its terms, which no request changes
+pub record DeskWorld : Type 0 where
+  pub content : World
+  pub terms : Terms
+
+-- the world of a new desk: no operators, no plans, and no terms
+abbrev pub new_world : DeskWorld
+new_world = record { content = record { operators = []; plans = [] }; terms = no_terms }
+
+-- the world of these terms and this content
+abbrev pub with_content : Terms → World → DeskWorld
+with_content terms content = record { content = content; terms = terms }
+
+-- the world of a desk; `content` gives the content of its store
+abbrev pub world_of : {S : Type 0} → (S → World) → Parts S → DeskWorld
+world_of content d = with_content d.terms (content d.store)
+
+-- an operator's side of a desk: what it owns there, and the desk's terms
+pub record Side : Type 0 where
+  pub own : Own
+  pub terms : Terms
+
+abbrev pub side : DeskWorld → List ℕ → Side
+side w operator = record { own = own w.content operator; terms = w.terms }
+
+-- the greatest priority that operators other than this one hold at a point
+abbrev pub held_in : DeskWorld → List ℕ → Point → Option ℕ
+held_in w operator = held w.content operator
+
+-- the world with the operator of this name enrolled with this ceiling
+abbrev pub enrolled : DeskWorld → List ℕ → ℕ → DeskWorld
+enrolled w name ceiling = record w { content = with_operator w.content name ceiling }
+
+-- a start can find nothing but the content of the desk's store: what was changed is durable
+abbrev pub IsSettled : {S : Type 0} → (S → World) → (S → Option World → Type 0) → Parts S → Type 0
+IsSettled content may_leave d = LeavesOnly (content d.store) (may_leave d.store)
+
+-- the desk `new` is settled; or its world is that of `old`, and a start can find no more than before
+abbrev pub IsSettledOrSame :
+    {S : Type 0} → (S → World) → (S → Option World → Type 0) → Parts S → Parts S → Type 0
+IsSettledOrSame content may_leave old new = IsSettled content may_leave new
+    ⊎ ((world_of content new ≡ world_of content old)
+    × LeavesNoMore (may_leave old.store) (may_leave new.store))
+
+-- ==== What a desk answers to a call and what it leaves, by its terms, what the operator owns and others hold
 -- what a caller is answered: a reply, that the operator is not enrolled, or that it has no such plan
 pub data Reported : Type 0 where
   replied : ReplyParts → Reported
@@ -70,8 +112,7 @@ abbrev pub put_verdict_in : Terms → World → List ℕ → ℕ → ℤ → Put
 put_verdict_in terms w operator ceiling moment asked =
     put_outcome terms (own w operator) (held w operator) ceiling moment asked
 
--- the conflict that the operator's plan `id` has in the world `w` with this area and this priority, if it has
--- one
+-- the conflict that the operator's plan `id` has in the world `w` with this area and priority, if it has one
 abbrev pub conflict_in : List ℕ → World → List ℕ → List ℕ → List Block → ℕ → Option Spot
 conflict_in permitted w operator id area priority =
     conflict permitted area (held_at (plans_of operator w) (held w operator) id) priority
@@ -175,8 +216,7 @@ enrolled_ruling terms mine others ceiling moment (call.Put asked) =
     put_ruling (put_outcome terms mine others ceiling moment asked) asked mine.plans
 enrolled_ruling terms mine others ceiling moment (call.Delete id) =
     delete_ruling mine.plans id (stored_of id mine.plans)
-enrolled_ruling terms mine others ceiling moment (call.Clear extent) =
-    clear_ruling mine.plans extent
+enrolled_ruling terms mine others ceiling moment (call.Clear extent) = clear_ruling mine.plans extent
 
 -- the ruling on a call of an operator, which has a ceiling exactly if it is enrolled
 abbrev pub ruling_under : Option ℕ → Terms → Own → (Point → Option ℕ) → ℤ → Call → Ruling
@@ -186,8 +226,7 @@ ruling_under (Some ceiling) terms mine others moment asked =
 
 -- the same, with the ceiling among what the operator owns
 unfoldable pub verdict : Terms → Own → (Point → Option ℕ) → ℤ → Call → Ruling
-verdict terms mine others moment asked =
-    ruling_under mine.ceiling terms mine others moment asked
+verdict terms mine others moment asked = ruling_under mine.ceiling terms mine others moment asked
 
 -- what an operator owns once a ruling has replaced its plans, and its side of the desk after a call
 abbrev pub own_left : Own → Option (List PlanRow) → Own
@@ -205,8 +244,7 @@ world_with_plans w operator (Some rows) = with_plans w operator rows
 -- the ruling on a call in a desk's world: it depends only on the desk's terms, on what the operator owns and
 -- on what others hold
 abbrev pub ruling_in : DeskWorld → List ℕ → ℤ → Call → Ruling
-ruling_in w operator moment asked =
-    verdict w.terms (own w.content operator) (held_in w operator) moment asked
+ruling_in w operator moment asked = verdict w.terms (own w.content operator) (held_in w operator) moment asked
 
 -- what the caller of a call at a moment is answered
 unfoldable pub reported_to : DeskWorld → List ℕ → ℤ → Call → Reported

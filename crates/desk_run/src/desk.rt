@@ -1,8 +1,7 @@
 //! The desk: calls answered over a store.
 
 ghost use Rattle.std.specs.Prelude.{◌≡◌, ◌≢◌, ◌≤◌, ◌<◌, ◌↔◌, [], Err, IfOk, IfErr, OnOk, OnErr};
-ghost use Rattle.desk_rules.specs.Limits.{max_priority};
-ghost use Rattle.desk_rules.specs.Terms.{no_terms};
+ghost use Rattle.desk_rules.specs.{Limits.max_priority, Outcome.no_terms};
 
 use crate::fault::DeskFault;
 use crate::pending::{Pending, prepare_over};
@@ -30,7 +29,7 @@ pub struct Desk<S> {
 }
 
 impl<S> Model for Desk<S> {
-    ghost use Rattle.desk_run.specs.DeskWorld.{Parts, parts_code};
+    ghost use Rattle.desk_run.specs.Verdicts.{Parts, parts_code};
 
     ghost Value = { Parts S };
 
@@ -77,14 +76,9 @@ impl<S> Desk<S> {
 }
 
 impl<S: PlanStore> Desk<S> {
-    ghost use Rattle.desk_store.specs.StoreFrames.{Remembers};
-    ghost use Rattle.desk_store.specs.StoreFaults.{IsHonest};
-    ghost use Rattle.desk_store.specs.Crashes.{LeavesNoMore};
-    ghost use Rattle.desk_run.specs.DeskFrames.{Leaves, fault_in};
-    ghost use Rattle.desk_run.specs.DeskWorld.{IsSettled, enrolled, world_of};
-    ghost use Rattle.desk_run.specs.CallFaults.{IsBreakdown, IsStoreFaultCounted};
-    ghost use Rattle.desk_run.specs.Verdicts.{step_by};
-    ghost use Rattle.desk_run.specs.Calls.{ReportsReply, Prepares, CanCommit, reply_in, world_committed};
+    ghost use Rattle.desk_store.specs.{Changes.Remembers, Changes.IsHonest, World.LeavesNoMore};
+    ghost use Rattle.desk_run.specs.Calls.{Leaves, fault_in, IsBreakdown, IsStoreFaultCounted, ReportsReply, Prepares, CanCommit, reply_in, world_committed};
+    ghost use Rattle.desk_run.specs.Verdicts.{IsSettled, enrolled, world_of, step_by};
 
     /// Enrols the operator with `ceiling`, the greatest priority that its plans may have (at most 1,000), or
     /// replaces its ceiling. Its plans stay.

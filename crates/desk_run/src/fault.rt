@@ -22,7 +22,7 @@ pub enum DeskFault {
 
 impl fmt::Display for DeskFault {
     ghost use Rattle.std.specs.Prelude.{Some};
-    ghost use Rattle.desk_run.specs.CallFaults.{desk_fault_text};
+    ghost use Rattle.desk_run.specs.Calls.{desk_fault_text};
 
     ghost output = { λ fault. Some (desk_fault_text fault) };
 
@@ -42,7 +42,7 @@ impl Error for DeskFault {}
 
 impl From<StoreFault> for DeskFault {
     ghost use Rattle.std.specs.Prelude.{◌≡◌};
-    ghost use Rattle.desk_run.specs.CallFaults.{fault_of};
+    ghost use Rattle.desk_run.specs.Calls.{fault_of};
 
     ghost from_gives = { λ fault e. e ≡ fault_of fault };
 

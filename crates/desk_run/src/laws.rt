@@ -1,16 +1,11 @@
 //! Laws of the definitions. Each is the contract of a function that does nothing.
 
 ghost use Rattle.std.specs.Prelude.{◌≡◌, ℕ, ℤ, List, Some, false};
-ghost use Rattle.std.specs.List.{AllZip};
-ghost use Rattle.std.specs.Ordering.{is_eq};
-ghost use Rattle.desk_rules.specs.declared.call.Call.{Call};
-ghost use Rattle.desk_rules.specs.declared.call.Call.TheVariants.{Delete};
-ghost use Rattle.desk_rules.specs.declared.plan.PlanRow.{PlanRow};
+ghost use Rattle.std.specs.{List.AllZip, Ordering.is_eq};
+ghost use Rattle.desk_rules.specs.declared.{call.Call.Call, call.Call.TheVariants.Delete, plan.PlanRow.PlanRow};
 ghost use Rattle.desk_rules.specs.declared.words.Usage.TheVariants as usage;
-ghost use Rattle.desk_run.specs.DeskWorld.{DeskWorld, enrolled, side, held_in};
-ghost use Rattle.desk_run.specs.Sides.{HoldAlike, OwnAlike};
-ghost use Rattle.desk_run.specs.CallRuns.{AreCallsSameFor, TimedCall, calls_of, met_by_calls};
-ghost use Rattle.desk_run.specs.Verdicts.{makes_change, side_left, step};
+ghost use Rattle.desk_run.specs.Verdicts.{DeskWorld, enrolled, side, held_in, makes_change, side_left, step};
+ghost use Rattle.desk_run.specs.Calls.{HoldAlike, OwnAlike, AreCallsSameFor, TimedCall, calls_of, met_by_calls};
 ghost use Rattle.desk_store.specs.World.{IsWorld, plans_of, stored_of, text_cmp};
 
 /// A request changes no other operator's plans or ceiling, and not the desk's terms.

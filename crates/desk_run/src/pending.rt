@@ -1,11 +1,8 @@
 //! Calls that are prepared: each has its reply, and its change to be committed.
 
 ghost use Rattle.std.specs.Prelude.{◌≡◌, IfOk, IfErr};
-ghost use Rattle.desk_store.specs.StoreFrames.{OnlyReads};
-ghost use Rattle.desk_store.specs.StoreFaults.{IsHonest};
-ghost use Rattle.desk_run.specs.CallFaults.{IsStoreFaultCounted};
-ghost use Rattle.desk_run.specs.DeskWorld.{with_content};
-ghost use Rattle.desk_run.specs.Calls.{IsSamePending, Prepares, has_change, reply_in};
+ghost use Rattle.desk_store.specs.Changes.{OnlyReads, IsHonest};
+ghost use Rattle.desk_run.specs.{Calls.IsStoreFaultCounted, Calls.IsSamePending, Calls.Prepares, Calls.has_change, Calls.reply_in, Verdicts.with_content};
 
 use crate::fault::DeskFault;
 use clear::prepare_clear;

@@ -1,12 +1,9 @@
 //! Runs: lists of calls that are answered one after the other.
 
 ghost use Rattle.std.specs.Prelude.{◌≡◌, ◌≤◌, length, map, Some, IfOk, OnErr};
-ghost use Rattle.desk_store.specs.StoreFrames.{Remembers};
-ghost use Rattle.desk_store.specs.StoreFaults.{IsHonest, HasRisen};
-ghost use Rattle.desk_run.specs.DeskFrames.{FindsOnly};
-ghost use Rattle.desk_run.specs.DeskWorld.{world_of};
-ghost use Rattle.desk_run.specs.Runs as spec;
-ghost use Rattle.desk_run.specs.Runs.{IsFoundIn, IsRun, as_reported};
+ghost use Rattle.desk_store.specs.Changes.{Remembers, IsHonest, HasRisen};
+ghost use Rattle.desk_run.specs.{Calls.FindsOnly, Calls.IsFoundIn, Calls.IsRun, Calls.as_reported, Verdicts.world_of};
+ghost use Rattle.desk_run.specs.Calls as spec;
 
 use crate::desk::Desk;
 use crate::fault::DeskFault;

@@ -24,12 +24,11 @@ use Rattle.desk_sql.specs.declared.opening.numbers.DeskTable.{DeskTable}
 use Rattle.desk_sql.specs.declared.reading.whole.WholeTable.{WholeTable}
 use Rattle.desk_sql.specs.Queries.{table_read, table_in, key_cells, rows_read}
 use Rattle.desk_sql.specs.Schema.{desk_schema, HasTable, has_table, is_packed}
-use Rattle.desk_sql.specs.Finding.{Holds}
+use Rattle.desk_sql.specs.Effects.{Holds}
 use Rattle.sqlite.specs.Tree.{Trees}
 use Rattle.desk_sql.specs.Rows.{IsDesk, Lists, tables_of, tables_in, tables_at}
-use Rattle.desk_sql.specs.Statements.{SelectsAll}
+use Rattle.desk_sql.specs.Statements.{SelectsAll, NeverRefuses, IsSure, IsSureCommand, IsSureGiven, IsSureMeaning, IsRefusal}
 use Rattle.desk_sql.proofs.lemmas.Read.{shown_read, sure_plain}
-use Rattle.desk_sql.specs.Refusals.{NeverRefuses, IsSure, IsSureCommand, IsSureGiven, IsSureMeaning, IsRefusal}
 
 -- the cause, of two states
 abbrev pub IsCause : State → State → Error → Type 0

@@ -19,16 +19,25 @@ use Rattle.desk_sql.specs.declared.opening.finding.TablesPresent.{TablesPresent}
 use Rattle.desk_sql.specs.declared.opening.finding.TablesPresent.TheVariants.{Nothing, Operators, Plans, OldVolumes, OldSpans, OldIndex, Volumes, Spans, All}
 use Rattle.desk_sql.specs.declared.opening.numbers.DeskTable.TheVariants as desk
 use Rattle.desk_sql.specs.Schema.{blank_schema, operator_schema, plan_schema, old_volume_schema, old_table_schema, old_schema, volume_schema, table_schema, desk_schema, schema_of, has_table, tree_of, operator_table, plan_table, old_volume_table, old_span_table, old_span_made, old_span_first, volume_table, span_table, span_made, span_first}
-use Rattle.desk_sql.specs.Making.{GrowsTables, Finishes, Completes, MayComplete}
+use Rattle.desk_sql.specs.Changing.{Finishes, Completes, MayComplete}
 use Rattle.desk_sql.specs.Rows.{IsDesk, IsMadeTo, AreNumbered, tables_at, tables_of}
-use Rattle.desk_sql.specs.Finding.{Holds}
-use Rattle.desk_sql.specs.Effects.{Spares}
-use Rattle.desk_sql.specs.Frames.{Remembers}
+use Rattle.desk_sql.specs.Effects.{Holds, Spares, Remembers}
 use Rattle.desk_sql.proofs.lemmas.Leaving.{remembers_then}
 use Rattle.desk_sql.specs.Statements.{MayWrite, Extends, enforced}
 use Rattle.desk_sql.proofs.lemmas.Texts.{operator_text, plan_text, old_volume_text, old_span_text, old_leaf_index_text, volume_text, span_text, leaf_index_text}
 use Rattle.desk_sql.proofs.TextLemmas.{operator_is, plan_is, old_volume_is, old_span_is, old_first_is, volume_is, span_is, first_is}
 use Rattle.desk_sql.proofs.lemmas.Write.{went, same_value, does_command, is_writing, ran, ran_sound}
+
+-- within a transaction, which goes on, `made` became `next`, and the rows that there were stayed
+pub record GrowsTables {S : Type 0} (g : Ghosts S) (made next : TablesPresent) (old new : Held S) : Type
+    0 where
+  pub was_open : IsTrue (state g old).is_open
+  pub is_open : IsTrue (state g new).is_open
+  pub begun : IsTrue new.in_transaction
+  pub committed : (state g new).committed ≡ (state g old).committed
+  pub has : IsMadeTo next (state g new).now
+  pub sound : IsDatabase (state g new).now
+  pub same : tables_at next (state g new).now.trees ≡ tables_at made (state g old).now.trees
 
 -- a text that makes this table, over this schema
 pub record MakesTable (schema : Schema) (text : List ℕ) (table : Table) : Type 0 where

@@ -9,7 +9,7 @@ use Rattle.sqlite_catalog.specs.Change.{without_table, without_index, is_reserve
 use Rattle.sqlite_schema.specs.Rules.{Refers}
 use Rattle.sqlite_schema.specs.declared.schema.Among.TheVariants.{All}
 use Rattle.sqlite.specs.Command.TheVariants.{DropTable, DropIndex}
-use Rattle.sqlite.specs.Effect.{Database}
+use Rattle.sqlite.specs.Effect.{Database, IsDatabase}
 use Rattle.sqlite.specs.Does.{Tally, Does, Drops as Dropped, Empties, Uncounts, is_acted_on}
 use Rattle.sqlite.specs.Rows.{Task}
 use Rattle.sqlite.specs.Tree.{Trees}
@@ -19,17 +19,19 @@ use Rattle.sqlite.specs.Held.{Held, state}
 use Rattle.sqlite.specs.Listing.{understood}
 use Rattle.sqlite.proofs.Callers.{IsPlain, command_of, statement_of}
 use Rattle.sqlite_tied.specs.Compute.{everything}
-use Rattle.sqlite.specs.Effect.{IsDatabase}
 use Rattle.desk_sql.specs.declared.opening.finding.TablesPresent.TheVariants.{OldSpans, Packed}
 use Rattle.desk_sql.specs.declared.opening.numbers.DeskTable.TheVariants as desk
 use Rattle.desk_sql.specs.Schema.{packed_schema, old_table_schema, packed_volume_made, packed_span_made, has_table, tree_of}
 use Rattle.desk_sql.specs.Rows.{IsMadeTo, AreNumbered}
-use Rattle.desk_sql.specs.Finding.{Holds}
+use Rattle.desk_sql.specs.Effects.{Holds, Makes}
 use Rattle.desk_sql.specs.Statements.{MayWrite, enforced}
-use Rattle.desk_sql.specs.Making.{Finishes}
-use Rattle.desk_sql.specs.Effects.{Makes}
-use Rattle.desk_sql.specs.Unpacking.{packed_old_first_index, Drops, Unpacks, RemakesTables, loose_schema, spanless_schema}
+use Rattle.desk_sql.specs.Changing.{Finishes, Drops, Unpacks, RemakesTables, loose_schema, spanless_schema}
 use Rattle.desk_sql.proofs.lemmas.Write.{went, same_value, does_command, ran, ran_sound}
+use Rattle.desk_sql.specs.Schema.{old_span_first}
+
+-- `span_first` as it stands in a packed file
+unfoldable pub packed_old_first_index : Index
+packed_old_first_index = record old_span_first { tree = 12 }
 
 abbrev pub drop_old_leaf_index_text : List ℕ
 drop_old_leaf_index_text = codes "DROP INDEX span_first"

@@ -22,17 +22,15 @@ use Rattle.sqlite_tied.specs.Compute.{everything}
 use Rattle.desk_sql.specs.declared.opening.finding.TablesPresent.TheVariants.{OldSpans, Packed}
 use Rattle.desk_sql.specs.Schema.{packed_schema, old_table_schema, packed_volume_made, packed_span_made}
 use Rattle.desk_sql.specs.Rows.{tables_at}
-use Rattle.desk_sql.specs.Making.{HasSmallSpans}
-use Rattle.desk_sql.specs.Statements.{enforced}
-use Rattle.desk_sql.specs.Changing.{IsWholeIn, MayStop}
-use Rattle.desk_sql.specs.Refusals.{IsRefusal}
-use Rattle.desk_sql.specs.Unpacking.{packed_old_first_index, Drops, Unpacks, loose_schema, spanless_schema}
+use Rattle.desk_sql.specs.Changing.{HasSmallSpans, IsWholeIn, MayStop, Drops, Unpacks, loose_schema, spanless_schema}
+use Rattle.desk_sql.specs.Statements.{enforced, IsRefusal}
 use Rattle.desk_sql.proofs.lemmas.Write.{is_writing}
 use Rattle.desk_sql.proofs.lemmas.Stop.{caused_inside, whole_in}
 use Rattle.desk_sql.proofs.lemmas.Rowid.{refusal_on}
 use Rattle.desk_sql.proofs.lemmas.Key.{obeyed_refers}
 use Rattle.desk_sql.proofs.StepStops.{stop_at}
 use Rattle.desk_sql.proofs.DropLemmas.{DropsIndex, DropsTable, drop_old_leaf_index_text, drop_spans_text, drop_volumes_text, drops_old_first, drops_spans, drops_volumes, index_dropped, kept_counts, kept_rows, table_dropped}
+use Rattle.desk_sql.proofs.DropLemmas.{packed_old_first_index}
 
 -- ---- the index
 

@@ -12,8 +12,8 @@ use Rattle.sqlite.specs.State.{State, IsUnchanged, Survives, HasCleanDisk, Shown
 use Rattle.sqlite.specs.Store.{Ghosts}
 use Rattle.sqlite.specs.Held.{Held, state}
 use Rattle.sqlite.proofs.Callers.{EndsIn, begins_shown, given_begin, unchanged_then}
-use Rattle.desk_sql.specs.Refusals.{IsSimple, IsSureGiven, IsRefusal}
-use Rattle.desk_sql.specs.Taking.{FailsToHand, FailsToHandAll, IsTakenInPart, Refusing}
+use Rattle.desk_sql.specs.Statements.{IsSimple, IsSureGiven, IsRefusal}
+use Rattle.desk_sql.specs.Queries.{FailsToHand, FailsToHandAll, IsTakenInPart, Refusing}
 use Rattle.desk_sql.proofs.lemmas.Read.{sure_plain}
 use Rattle.desk_sql.proofs.AskLemmas.{IsCause, KnownSure, failed, sure_at}
 use Rattle.desk_sql.proofs.TakingLemmas.{shown_from, unchanged_itself}

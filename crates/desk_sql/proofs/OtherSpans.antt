@@ -7,13 +7,11 @@ use Rattle.sqlite.specs.Order.{Row, column}
 use Rattle.sqlite.specs.Term.{eval_all, holds}
 use Rattle.sqlite_tied.specs.Compute.{everything}
 use Rattle.sqlite.specs.Listing.{understood}
-use Rattle.desk_sql.specs.Rows.{differs, is_at_most, is_at_least, is_below, is_above, columns_from_first, columns}
+use Rattle.desk_sql.specs.Rows.{differs, is_at_most, is_at_least, is_below, is_above, columns_from_first, columns, is_others_from}
 use Rattle.desk_sql.specs.declared.reading.rivals.SpanFilter.{SpanFilter}
 use Rattle.desk_sql.specs.Schema.{desk_schema}
 use Rattle.desk_sql.specs.Queries.{others_params}
-use Rattle.desk_sql.specs.Refusals.{IsSureGiven}
-use Rattle.desk_sql.specs.Statements.{Selects}
-use Rattle.desk_sql.specs.Others.{is_others_from}
+use Rattle.desk_sql.specs.Statements.{IsSureGiven, Selects}
 use Rattle.desk_sql.proofs.lemmas.QueryTexts.{rival_spans_is, rival_spans_query}
 use Rattle.desk_sql.proofs.lemmas.Read.{either_null, le_number, ge_number, lt_number, gt_number}
 use Rattle.desk_sql.proofs.StatementLemmas.{and_last, both_hold, one_plan, selects}

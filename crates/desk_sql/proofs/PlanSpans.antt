@@ -10,13 +10,11 @@ use Rattle.sqlite_sql.specs.declared.ops.CompareOp.{CompareOp}
 use Rattle.sqlite_sql.specs.declared.ops.CompareOp.TheVariants.{Eq, Lt, Le, Gt, Ge}
 use Rattle.sqlite_tied.specs.Compute.{everything}
 use Rattle.sqlite.specs.Listing.{understood}
-use Rattle.desk_sql.specs.Rows.{is_at_most, is_at_least, is_below, is_above, is_of, columns_from_first, columns}
+use Rattle.desk_sql.specs.Rows.{is_at_most, is_at_least, is_below, is_above, is_of, columns_from_first, columns, is_plan_span}
 use Rattle.desk_sql.specs.declared.reading.rivals.SpanFilter.{SpanFilter}
 use Rattle.desk_sql.specs.Schema.{desk_schema}
 use Rattle.desk_sql.specs.Queries.{plan_params}
-use Rattle.desk_sql.specs.Refusals.{IsSureGiven}
-use Rattle.desk_sql.specs.Statements.{Selects}
-use Rattle.desk_sql.specs.Others.{is_plan_span}
+use Rattle.desk_sql.specs.Statements.{IsSureGiven, Selects}
 use Rattle.desk_sql.proofs.lemmas.QueryTexts.{IsQuery, query_of}
 use Rattle.desk_sql.proofs.lemmas.Read.{equals_text, le_number, ge_number, lt_number, gt_number}
 use Rattle.desk_sql.proofs.StatementLemmas.{and_last, both_hold, one_plan, selects}

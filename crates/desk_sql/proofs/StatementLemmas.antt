@@ -15,7 +15,7 @@ use Rattle.sqlite_value.specs.declared.keys.Key.{Key}
 use Rattle.sqlite.specs.State.{HasCleanDisk, Shown}
 use Rattle.sqlite.specs.Store.{Ghosts}
 use Rattle.sqlite.specs.Held.{Held, state}
-use Rattle.desk_sql.specs.Rows.{IsDesk, is_row_by, is_of, is_rival_from, differs, is_at_most, is_at_least, is_below, is_above, columns_from_first, is_same, joined, has_volume, with_volumes, by_cells, columns, tables_of, Lists}
+use Rattle.desk_sql.specs.Rows.{IsDesk, is_row_by, is_of, is_rival_from, differs, is_at_most, is_at_least, is_below, is_above, columns_from_first, is_same, joined, has_volume, with_volumes, by_cells, columns, tables_of, Lists, Tables}
 use Rattle.desk_sql.specs.declared.reading.rivals.SpanFilter.{SpanFilter}
 use Rattle.desk_sql.specs.declared.reading.query.Query.{Query}
 use Rattle.desk_sql.specs.Queries.{params_of, order_of, rows_of, rival_params}
@@ -25,13 +25,11 @@ use Rattle.sqlite_schema.specs.declared.schema.Index.{Index}
 use Rattle.desk_sql.specs.declared.opening.numbers.DeskTable.{DeskTable}
 use Rattle.desk_sql.specs.declared.opening.numbers.DeskTable.TheVariants.{Operator, Plan, Volume, Span}
 use Rattle.desk_sql.specs.Schema.{desk_schema, schema_to, HasTable}
-use Rattle.desk_sql.specs.Finding.{Holds}
+use Rattle.desk_sql.specs.Effects.{Holds}
 use Rattle.sqlite.specs.Effect.{Database}
 use Rattle.sqlite.specs.Listing.{understood}
 use Rattle.sqlite.specs.Tree.{Trees}
-use Rattle.desk_sql.specs.Rows.{Tables}
-use Rattle.desk_sql.specs.Refusals.{IsSure, IsSureGiven}
-use Rattle.desk_sql.specs.Statements.{MayRead, Selects, SelectsAll}
+use Rattle.desk_sql.specs.Statements.{IsSure, IsSureGiven, MayRead, Selects, SelectsAll}
 use Rattle.desk_sql.proofs.Sure.{plan_of_sure, volumes_of_sure, own_plans_sure, rival_spans_sure}
 use Rattle.desk_sql.proofs.SureTexts.{all_operators_sure, all_plans_sure, volume_rows_sure, all_spans_sure}
 use Rattle.desk_sql.proofs.lemmas.Texts.{all_operators_text, plan_of_text, all_plans_text, volumes_of_text, volume_rows_text, all_spans_text, own_plans_text, rival_spans_text}

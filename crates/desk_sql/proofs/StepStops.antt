@@ -46,10 +46,8 @@ use Rattle.desk_sql.specs.declared.opening.finding.TablesPresent.TheVariants.{No
 use Rattle.desk_sql.specs.declared.opening.numbers.DeskTable.TheVariants as desk
 use Rattle.desk_sql.specs.Schema.{schema_of, blank_schema, operator_schema, plan_schema, old_volume_schema, old_table_schema, old_schema, volume_schema, table_schema, operator_table, plan_table, old_volume_table, old_span_table, old_span_made, old_span_first, volume_table, span_table, span_made, span_first}
 use Rattle.desk_sql.specs.Rows.{columns, tables_at}
-use Rattle.desk_sql.specs.Statements.{Extends, enforced}
-use Rattle.desk_sql.specs.Changing.{IsWholeIn, MayStop}
-use Rattle.desk_sql.specs.Refusals.{IsRefusal}
-use Rattle.desk_sql.specs.Making.{IsSmall, AreSmall, HasSmallSpans, IsStep}
+use Rattle.desk_sql.specs.Statements.{Extends, enforced, IsRefusal}
+use Rattle.desk_sql.specs.Changing.{IsWholeIn, MayStop, IsSmall, AreSmall, HasSmallSpans, IsStep}
 use Rattle.desk_sql.proofs.lemmas.Texts.{operator_text, plan_text, old_volume_text, old_span_text, old_leaf_index_text, volume_text, span_text, leaf_index_text}
 use Rattle.desk_sql.proofs.lemmas.Write.{same_value}
 use Rattle.desk_sql.proofs.lemmas.Stop.{caused_inside, names_in, tail_of, whole_in}

@@ -5,7 +5,7 @@ use Rattle.sqlite_tied.specs.Compute.{everything}
 use Rattle.sqlite.specs.Listing.{understood}
 use Rattle.desk_sql.specs.declared.reading.rivals.SpanFilter.{SpanFilter}
 use Rattle.desk_sql.specs.Schema.{desk_schema}
-use Rattle.desk_sql.specs.Refusals.{IsSureGiven}
+use Rattle.desk_sql.specs.Statements.{IsSureGiven}
 use Rattle.desk_sql.proofs.lemmas.Texts.{plan_of_text, volumes_of_text, own_plans_text, rival_spans_text}
 use Rattle.desk_sql.proofs.lemmas.QueryTexts.{plan_of_is, plan_of_query, volumes_of_is, volumes_of_query, own_plans_is, own_plans_query, rival_spans_is, rival_spans_query}
 use Rattle.desk_sql.specs.Queries.{rival_params}

@@ -13,7 +13,7 @@ use Rattle.sqlite.specs.Table.{Table}
 use Rattle.desk_sql.specs.declared.opening.numbers.DeskTable.{DeskTable}
 use Rattle.desk_sql.specs.declared.opening.numbers.DeskTable.TheVariants.{Operator, Plan, OldVolume, OldSpan, Volume, Span}
 use Rattle.desk_sql.specs.Schema.{schema_to}
-use Rattle.desk_sql.specs.Refusals.{NeverRefuses, IsSure}
+use Rattle.desk_sql.specs.Statements.{NeverRefuses, IsSure}
 use Rattle.desk_sql.proofs.lemmas.Texts.{all_operators_text, all_plans_text, volume_rows_text, all_spans_text, operator_rowids_text, plan_rowids_text, old_volume_rowids_text, old_span_rowids_text, volume_rowids_text, span_rowids_text}
 use Rattle.desk_sql.proofs.lemmas.Stop.{names_in, tail_of}
 use Rattle.desk_sql.proofs.lemmas.Sure.{Misfits, meant}

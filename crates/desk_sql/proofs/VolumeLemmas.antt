@@ -8,9 +8,8 @@ use Rattle.sqlite.specs.Order.{Row}
 use Rattle.sqlite.specs.Tree.{Trees}
 use Rattle.sqlite_keyed.proofs.ListLemmas.{map-map}
 use Rattle.desk_sql.specs.declared.opening.finding.TablesPresent.{TablesPresent}
-use Rattle.desk_sql.specs.Rows.{by_cells, columns, cover_columns, tables_at, Lists}
+use Rattle.desk_sql.specs.Rows.{by_cells, columns, cover_columns, tables_at, Lists, ListVolumes, cover_part, volume_part, volume_table_in}
 use Rattle.desk_sql.specs.Schema.{has_table, is_packed, tree_of}
-use Rattle.desk_sql.specs.Volumes.{ListVolumes, cover_part, volume_part, volume_table_in}
 
 abbrev key : List ℕ
 key = 0 ∷ 1 ∷ 2 ∷ []

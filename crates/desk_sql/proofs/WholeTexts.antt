@@ -4,10 +4,9 @@ use Rattle.sqlite.specs.Tree.{Trees}
 use Rattle.desk_sql.specs.declared.opening.numbers.DeskTable.TheVariants as desk
 use Rattle.desk_sql.specs.declared.reading.whole.WholeTable.{WholeTable}
 use Rattle.desk_sql.specs.declared.reading.whole.WholeTable.TheVariants.{Operators, Plans, OldVolumes, OldSpans, Spans}
-use Rattle.desk_sql.specs.Queries.{table_in, key_cells, rows_read, table_read}
+use Rattle.desk_sql.specs.Queries.{table_in, key_cells, rows_read, table_read, ShowsWhole}
 use Rattle.desk_sql.specs.Rows.{tables_of, tables_in}
 use Rattle.desk_sql.specs.Statements.{SelectsAll}
-use Rattle.desk_sql.specs.WholeTables.{ShowsWhole}
 use Rattle.desk_sql.proofs.AskLemmas.{one_tree, two_trees}
 use Rattle.desk_sql.proofs.PackedLemmas as packed
 use Rattle.desk_sql.proofs.StatementLemmas.{all_operators_selected, all_plans_selected, all_spans_selected}

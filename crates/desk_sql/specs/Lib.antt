@@ -1,19 +1,6 @@
--- Read first: Schema, Rows, Effects, Frames, Calls.
-pub mod Takers
+pub mod Queries
 pub mod Schema
 pub mod Rows
 pub mod Effects
-pub mod Frames
-pub mod Making
-pub mod Unpacking
-pub mod Finding
-pub mod Objects
-pub mod Refusals
-pub mod Taking
-pub mod QueryEnds
-pub mod Others
-pub mod Statements
-pub mod Queries
-pub mod Volumes
 pub mod Changing
-pub mod WholeTables
+pub mod Statements

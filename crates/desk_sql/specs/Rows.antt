@@ -1,24 +1,14 @@
 -- The rows of the six tables, as a caller sees them.
 use Rattle.std.specs.Prelude.{◌≡◌, ℕ, ℤ, pos, Bool, true, false, ◌&&◌, ◌||◌, not, List, [], ◌∷◌, map, drop, filter, ◌++◌, IsPermutation, IsSorted, if◌then◌else◌}
-use Rattle.std.specs.Ordering.{is_eq, is_lt, is_le, is_gt, is_ge, ordering_then}
-use Rattle.std.specs.declared.cmp.Ordering.{Ordering}
-use Rattle.std.specs.declared.cmp.Ordering.TheVariants.{Equal}
-use Rattle.sqlite.specs.Ops.{is_null}
-use Rattle.std.specs.List.{AllByRecursion, flat_map, list_any, range_with_len}
-use Rattle.sqlite.specs.declared.types.Value.{Value}
-use Rattle.sqlite.specs.declared.types.Value.TheVariants.{Int, Text, Blob}
-use Rattle.sqlite.specs.Order.{Row, column, value_cmp}
-use Rattle.sqlite.specs.Tree.{Trees, rowid, IsAscending}
-use Rattle.sqlite.specs.View.{is_int}
-use Rattle.sqlite.specs.Effect.{Database}
-use Rattle.desk_sql.specs.declared.opening.finding.TablesPresent.{TablesPresent}
-use Rattle.desk_sql.specs.declared.opening.finding.TablesPresent.TheVariants.{Nothing, Operators, Plans, OldVolumes, OldSpans, OldIndex, Volumes, Spans, All, Packed}
-use Rattle.desk_sql.specs.declared.opening.numbers.DeskTable.{DeskTable}
+use Rattle.std.specs.{Ordering.is_eq, Ordering.is_lt, Ordering.is_le, Ordering.is_gt, Ordering.is_ge, Ordering.ordering_then, List.AllByRecursion, List.flat_map, List.list_any, List.range_with_len}
+use Rattle.std.specs.declared.cmp.{Ordering.Ordering, Ordering.TheVariants.Equal}
+use Rattle.sqlite.specs.{Ops.is_null, Order.Row, Order.column, Order.value_cmp, Tree.Trees, Tree.rowid, Tree.IsAscending, View.is_int, Effect.Database}
+use Rattle.sqlite.specs.declared.types.{Value.Value, Value.TheVariants.Int, Value.TheVariants.Text, Value.TheVariants.Blob}
+use Rattle.desk_sql.specs.declared.opening.finding.{TablesPresent.TablesPresent, TablesPresent.TheVariants.Nothing, TablesPresent.TheVariants.Operators, TablesPresent.TheVariants.Plans, TablesPresent.TheVariants.OldVolumes, TablesPresent.TheVariants.OldSpans, TablesPresent.TheVariants.OldIndex, TablesPresent.TheVariants.Volumes, TablesPresent.TheVariants.Spans, TablesPresent.TheVariants.All, TablesPresent.TheVariants.Packed}
+use Rattle.desk_sql.specs.declared.{opening.numbers.DeskTable.DeskTable, opening.numbers.DeskTable.TheVariants.PackedVolume, opening.numbers.DeskTable.TheVariants.Volume, reading.rivals.SpanFilter.SpanFilter}
 use Rattle.desk_sql.specs.Schema.{desk_schema, schema_of, tree_of, has_table}
-use Rattle.desk_sql.specs.declared.reading.rivals.SpanFilter.{SpanFilter}
 
 -- ---- what a row holds
-
 -- the rows of `operator`, and of `plan`, with these values
 abbrev pub operator_row : List ℕ → ℕ → Row
 operator_row name ceiling = Text name ∷ Int (pos ceiling) ∷ []
@@ -66,7 +56,6 @@ span_row s =
     ∷ Int s.start ∷ Int s.stop ∷ Int (pos s.priority) ∷ []
 
 -- ---- whose a row is
-
 abbrev pub is_text : Value → List ℕ → Bool
 is_text v text = is_eq (value_cmp v (Text text))
 
@@ -82,7 +71,6 @@ abbrev pub is_not_of : List ℕ → List ℕ → Row → Bool
 is_not_of operator id row = not (is_of operator id row)
 
 -- ---- the tables
-
 -- the rows of each table, as a query shows them: without their rowids. Those of `volume2` are seen in two
 -- parts, each with the key: `volumes` without `canon`, and `covers` with `canon` alone
 pub record Tables : Type 0 where
@@ -146,8 +134,7 @@ tables_in false db = tables_of db
 abbrev pub tables_at : TablesPresent → Trees → Tables
 tables_at Nothing db = no_rows
 tables_at Operators db = record no_rows { operators = map (columns 2) (db 0) }
-tables_at Plans db =
-    record no_rows { operators = map (columns 2) (db 0); plans = map (columns 5) (db 2) }
+tables_at Plans db = record no_rows { operators = map (columns 2) (db 0); plans = map (columns 5) (db 2) }
 tables_at OldVolumes db = record (old_tables_of db) { old_spans = [] }
 tables_at OldSpans db = old_tables_of db
 tables_at OldIndex db = old_tables_of db
@@ -169,7 +156,6 @@ abbrev pub has_new_rows : Tables → Bool
 has_new_rows t = has_rows t.volumes || has_rows t.spans
 
 -- ---- changes of the tables: what is not named stays
-
 abbrev pub AddsOperator : Row → Tables → Tables → Type 0
 AddsOperator row old new = IsPermutation (row ∷ old.operators) new.operators
     × (new ≡ record old { operators = new.operators })
@@ -233,8 +219,7 @@ PutsOperator name ceiling old new =
     else operator_row name ceiling ∷ old.operators) new.operators
     × (new ≡ record old { operators = new.operators })
 
--- the plan's row gets the usage Closed (2), this priority and this aircraft, and its rows of `span2` are
--- removed
+-- the plan's row gets the usage Closed (2), this priority and aircraft, and its rows of `span2` are removed
 pub record ClosesPlan (operator id : List ℕ) (priority aircraft : ℕ) (old new : Tables) : Type 0 where
   pub operators : new.operators ≡ old.operators
   pub plans : IsPermutation (with_row (is_of operator id)
@@ -283,8 +268,7 @@ is_below v n = not (is_null v) && is_lt (value_cmp v (Int n))
 abbrev pub is_above : Value → ℤ → Bool
 is_above v n = not (is_null v) && is_gt (value_cmp v (Int n))
 
--- the filter `reach` selects the span. Its columns are 3 `first`, 4 `last`, 5 `lower`, 6 `upper`, 7 `start`,
--- 8 `stop` and 9 `priority`
+-- `reach` selects the span. Columns 3 to 9 are `first`, `last`, `lower`, `upper`, `start`, `stop`, `priority`
 abbrev pub passes_filter : SpanFilter → Row → Bool
 passes_filter reach span =
     is_at_most (column span 3) reach.last
@@ -334,8 +318,38 @@ abbrev pub AreNumberedTo : TablesPresent → Trees → Type 0
 AreNumberedTo made trees =
     (table : DeskTable) → has_table made table ≡ true → AreNumbered (trees (tree_of table))
 
--- a database that has the tables and indexes `made`, and nothing else; its rowids are whole numbers, each
--- once
+-- a database that has the tables and indexes `made` and nothing else; its rowids are whole numbers, each once
 pub record IsMadeTo (made : TablesPresent) (db : Database) : Type 0 where
   pub schema : db.schema ≡ schema_of made
   pub rows : AreNumberedTo made db.trees
+
+-- a span of another operator's plan that the filter `reach` selects
+abbrev pub is_others : List ℕ → SpanFilter → Row → Bool
+is_others operator reach span = passes_filter reach span && differs (column span 0) (Text operator)
+
+-- such a span that begins at the leaf position `low` or later
+abbrev pub is_others_from : List ℕ → SpanFilter → ℤ → Row → Bool
+is_others_from operator reach low span = is_at_least (column span 3) low && is_others operator reach span
+
+-- a span of this plan that the filter `reach` selects
+abbrev pub is_plan_span : List ℕ → List ℕ → SpanFilter → Row → Bool
+is_plan_span operator id reach span = passes_filter reach span && is_of operator id span
+
+-- ==== The rows of `volume2` as an opening reads them: each once, with all its columns
+-- `volume2`, which in a packed file has another b-tree
+abbrev pub volume_table_in : Bool → DeskTable
+volume_table_in packed = if packed then PackedVolume else Volume
+
+-- a row of `volume2` without its last column, `canon`
+abbrev pub volume_part : Row → Row
+volume_part row = map (column row) (range_with_len 0 8)
+
+-- its key and `canon` alone
+abbrev pub cover_part : Row → Row
+cover_part row = map (column row) (0 ∷ 1 ∷ 2 ∷ 8 ∷ [])
+
+-- the rows with all columns are those of `volume2`: without `canon` they are the volumes, and with the key
+-- and `canon` alone the covers. Both are ordered by the key (columns 0 to 2)
+pub record ListVolumes (t : Tables) (rows : List Row) : Type 0 where
+  pub volumes_listed : Lists (0 ∷ 1 ∷ 2 ∷ []) t.volumes (map volume_part rows)
+  pub covers_listed : Lists (0 ∷ 1 ∷ 2 ∷ []) t.covers (map cover_part rows)

@@ -1,24 +1,19 @@
--- The schema of the database, version 2. Version 1 is what there is of it up to the index `span_first`,
--- with its rows in `volume` and `span`, which are empty in version 2: they stay, so that a file of version 1
--- grows to this schema.
-use Rattle.std.specs.Prelude.{true, false, [], ◌∷◌, List, ℕ, Bool, None, codes, ◌≡◌}
-use Rattle.sqlite.specs.Collation.TheVariants.{Binary}
+-- The schema of the database, and the forms by which the program describes its tables and indexes.
+use Rattle.std.specs.Prelude.{true, false, [], ◌∷◌, List, ℕ, Bool, None, codes, ◌≡◌, ◌+◌, map}
+use Rattle.sqlite.specs.{Collation.TheVariants.Binary, Table.Table, Schema.Schema, Kind.Kind, Kind.TheVariants.Integer, Kind.TheVariants.Text, Kind.TheVariants.Blob, Effect.Database}
 use Rattle.sqlite.specs.declared.types.Value.TheVariants.{Null}
-use Rattle.sqlite.specs.Table.{Table}
-use Rattle.sqlite.specs.Schema.{Schema}
-use Rattle.sqlite.specs.Kind.{Kind}
-use Rattle.sqlite.specs.Kind.TheVariants.{Integer, Text, Blob}
-use Rattle.sqlite_schema.specs.declared.schema.Action.TheVariants.{NoAction, Cascade}
-use Rattle.sqlite_schema.specs.declared.schema.Column.{Column}
-use Rattle.sqlite_schema.specs.declared.schema.Index.{Index}
-use Rattle.sqlite_schema.specs.declared.schema.Reference.{Reference}
+use Rattle.sqlite_schema.specs.declared.schema.{Action.TheVariants.NoAction, Action.TheVariants.Cascade, Column.Column, Index.Index, Reference.Reference, Stamps.Stamps}
 use Rattle.sqlite_value.specs.Keys.{plain}
 use Rattle.sqlite_catalog.specs.Change.{created, indexed}
-use Rattle.sqlite.specs.Effect.{Database}
-use Rattle.desk_sql.specs.declared.opening.finding.TablesPresent.{TablesPresent}
-use Rattle.desk_sql.specs.declared.opening.finding.TablesPresent.TheVariants.{Nothing, Operators, Plans, OldVolumes, OldSpans, OldIndex, Volumes, Spans, All, Packed}
-use Rattle.desk_sql.specs.declared.opening.numbers.DeskTable.{DeskTable}
+use Rattle.desk_sql.specs.declared.opening.finding.{TablesPresent.TablesPresent, TablesPresent.TheVariants.Nothing, TablesPresent.TheVariants.Operators, TablesPresent.TheVariants.Plans, TablesPresent.TheVariants.OldVolumes, TablesPresent.TheVariants.OldSpans, TablesPresent.TheVariants.OldIndex, TablesPresent.TheVariants.Volumes, TablesPresent.TheVariants.Spans, TablesPresent.TheVariants.All, TablesPresent.TheVariants.Packed}
+use Rattle.desk_sql.specs.declared.{opening.numbers.DeskTable.DeskTable, opening.objects.ColumnForm.ColumnForm, opening.objects.ReferenceForm.ReferenceForm, opening.objects.TableForm.TableForm, opening.objects.DeskObject.DeskObject}
 use Rattle.desk_sql.specs.declared.opening.numbers.DeskTable.TheVariants as desk
+use Rattle.desk_sql.specs.declared.opening.objects.ColumnForm.TheVariants as column
+use Rattle.desk_sql.specs.declared.opening.objects.DeskObject.TheVariants as object
+
+-- ==== The schema of the database, version 2
+-- Version 1 is what there is of it up to the index `span_first`, with its rows in `volume` and `span`, which
+-- are empty in version 2: they stay, so that a file of version 1 grows to this schema.
 
 -- a column of a STRICT table, which takes no NULL, has no default and is compared by its bytes
 abbrev pub column_of : List ℕ → Kind → Column
@@ -120,8 +115,7 @@ abbrev pub blank_schema : Schema
 blank_schema = record { tables = []; indexes = []; views = [] }
 
 -- the tables made in this order: `operator` is tree 0, `plan` 2, `volume` 4, `span` 6, `volume2` 9 and
--- `span2` 11. Their keys' indexes are the trees 1, 3, 5, 7, 10 and 12, and the indexes over the leaves of
--- spans 8 and 13
+-- `span2` 11. Their keys' indexes are trees 1, 3, 5, 7, 10 and 12; those over the leaves of spans 8 and 13
 abbrev pub operator_schema : Schema
 operator_schema = created blank_schema operator_table
 
@@ -174,9 +168,8 @@ span_made = record span_table { tree = 11 }
 abbrev pub desk_schema : Schema
 desk_schema = indexed table_schema span_made span_first
 
--- ---- a packed file: its tables come first, and then the indexes, as SQLite lists them when it writes a
--- database anew (VACUUM, VACUUM INTO, or a file that is restored from a dump). So `volume2` is tree 8 there,
--- and `span2` tree 10
+-- ---- a packed file: its tables come first, then the indexes, as SQLite lists them when it writes a database
+-- anew (VACUUM, VACUUM INTO, or a file restored from a dump). So `volume2` is tree 8 there, `span2` tree 10
 abbrev pub packed_volume_schema : Schema
 packed_volume_schema = created old_table_schema volume_table
 
@@ -188,8 +181,7 @@ abbrev pub packed_span_made : Table
 packed_span_made = record span_table { tree = 10 }
 
 abbrev pub packed_schema : Schema
-packed_schema =
-    indexed (indexed packed_table_schema old_span_made old_span_first) packed_span_made span_first
+packed_schema = indexed (indexed packed_table_schema old_span_made old_span_first) packed_span_made span_first
 
 -- the schema of a database that has the tables and indexes `made`
 abbrev pub schema_of : TablesPresent → Schema
@@ -205,7 +197,6 @@ schema_of All = desk_schema
 schema_of Packed = packed_schema
 
 -- ---- the tables as they stand among others
-
 abbrev pub operator_made : Table
 operator_made = record operator_table { tree = 0 }
 
@@ -295,3 +286,65 @@ schema_to table others indexes = record { tables = tables_to table others; index
 pub record HasTable (table : DeskTable) (db : Database) : Type 0 where
   pub others : List Table
   pub schema : db.schema ≡ schema_to table others db.schema.indexes
+
+-- ==== The tables and indexes of a desk: the program's forms of them, and what these stand for in a schema
+-- ---- the parts of a table and of an index
+-- no default reads the time
+abbrev pub no_stamps : Stamps
+no_stamps = record { places = []; terms = []; formats = [] }
+
+-- the table with no INTEGER PRIMARY KEY, CHECK, computed default or AUTOINCREMENT
+abbrev pub without_extras : Table → Table
+without_extras table =
+    record table { key = None; checks = []; computed = []; stamps = no_stamps; is_counted = false }
+
+-- the table of this name, tree and primary key that has the columns and references of another
+abbrev pub plain_table : Table → List ℕ → ℕ → List ℕ → Table
+plain_table like name tree key = record (table_of name like.columns key like.references) { tree = tree }
+
+-- the index that SQLite makes for the primary key of the table in the tree before its own
+abbrev pub key_index : List ℕ → ℕ → List ℕ → Index
+key_index name table key =
+    record { name = name; tree = table + 1; table = table; columns = key; order = plain; is_unique = true }
+
+-- ---- what a form stands for
+-- a column of a STRICT table
+abbrev pub column_from : ColumnForm → Column
+column_from (column.OfText name) = column_of name.now Text
+column_from (column.OfNumber name) = column_of name.now Integer
+column_from (column.OfBytes name) = column_of name.now Blob
+
+-- the name of a column
+abbrev pub name_from : ColumnForm → List ℕ
+name_from form = (column_from form).name
+
+-- a foreign key with no action on an update
+abbrev pub reference_from : ReferenceForm → Reference
+reference_from form = record {
+  columns = form.places.now;
+  parent = form.parent.now;
+  parent_columns = map name_from form.parent_columns.now;
+  on_delete = form.on_delete;
+  on_update = NoAction;
+  is_deferred = false;
+}
+
+-- the table in the b-tree `tree`
+abbrev pub table_from : TableForm → ℕ → Table
+table_from form tree = record (table_of form.name.now (map column_from form.columns.now) form.key.now
+    (map reference_from form.references.now)) { tree = tree }
+
+-- the tables of these objects
+abbrev pub tables_from : List DeskObject → List Table
+tables_from [] = []
+tables_from (object.KeyedTable form tree ∷ others) = table_from form tree ∷ tables_from others
+tables_from (object.LeafIndex form tree table ∷ others) = tables_from others
+
+-- an index over leaves itself, or the index of a table's primary key
+abbrev pub index_from : DeskObject → Index
+index_from (object.KeyedTable form tree) = key_index form.key_index.now tree form.key.now
+index_from (object.LeafIndex form tree table) = record (leaf_index_of form.name.now table) { tree = tree }
+
+-- the schema of these objects, and of no others
+abbrev pub schema_from : List DeskObject → Schema
+schema_from objects = record { tables = tables_from objects; indexes = map index_from objects; views = [] }

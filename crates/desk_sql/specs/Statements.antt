@@ -1,25 +1,82 @@
--- What a text of SQL selects, changes or makes.
-use Rattle.std.specs.Prelude.{◌≡◌, false, ℕ, List, [], ◌∷◌, map, Option, None, Result, Ok, Err, unwrap_or}
-use Rattle.sqlite.specs.Order.{Row}
-use Rattle.sqlite.specs.Tree.{Trees, rowid}
-use Rattle.sqlite.specs.declared.run.Mode.{Mode}
-use Rattle.sqlite.specs.Effect.{Database, Reads}
-use Rattle.sqlite.specs.Does.{Tally, Does}
-use Rattle.sqlite.specs.Calls.{IsWrite}
-use Rattle.sqlite.specs.State.{text_of}
-use Rattle.sqlite.specs.Given.{IsPlain}
-use Rattle.sqlite.specs.Listing.{understood}
-use Rattle.sqlite_schema.specs.declared.schema.Keys.TheVariants.{Enforced}
-use Rattle.sqlite_resolve.specs.declared.compiled.Compiled.{Compiled}
-use Rattle.sqlite_resolve.specs.declared.error.CompileError.{CompileError}
-use Rattle.desk_sql.specs.declared.opening.finding.TablesPresent.{TablesPresent}
-use Rattle.desk_sql.specs.declared.opening.numbers.DeskTable.{DeskTable}
-use Rattle.desk_sql.specs.Schema.{desk_schema, schema_of, HasTable}
-use Rattle.desk_sql.specs.Rows.{IsDesk, IsMadeTo, Tables, tables_of, tables_at, Lists}
-use Rattle.desk_sql.specs.Refusals.{IsSure, IsSureGiven}
+-- What a text of SQL selects, changes or makes, and why tables are not read.
+use Rattle.std.specs.Prelude.{◌≡◌, ◌⊎◌, ℕ, ◌≤◌, List, [], length, Option, Result, Ok, Err, None, IsSome, false, ◌∷◌, map, unwrap_or}
+use Rattle.sqlite_disk.specs.Disk.{MoreFaults}
+use Rattle.sqlite_schema.specs.declared.{command.Command.Command, command.Command.TheVariants.Select, schema.Keys.TheVariants.Enforced}
+use Rattle.sqlite_resolve.specs.declared.{compiled.Compiled.Compiled, error.CompileError.CompileError}
+use Rattle.sqlite.specs.declared.{error.Error.Error, error.Error.TheVariants.SqliteFailure, run.Mode.Mode}
+use Rattle.sqlite.specs.declared.error.ErrorCode.TheVariants as code
+use Rattle.sqlite.specs.{Effect.Database, Effect.RefusesToRead, Effect.Reads, Order.Row, Listing.understood, Listing.reads_listing, Store.Ghosts, Held.Held, Held.state, Schema.Schema, Tree.Trees, Tree.rowid, Does.Tally, Does.Does, Calls.IsWrite, State.text_of, Given.IsPlain}
+use Rattle.sqlite_schema.specs.Program.{lets_of}
+use Rattle.desk_sql.specs.declared.{opening.finding.TablesPresent.TablesPresent, opening.numbers.DeskTable.DeskTable}
+use Rattle.desk_sql.specs.{Schema.schema_of, Schema.tree_of, Schema.desk_schema, Schema.HasTable, Rows.AreNumbered, Rows.IsMadeTo, Rows.IsDesk, Rows.Tables, Rows.tables_of, Rows.tables_at, Rows.Lists}
 
+-- a command that reads, under a schema and given these parameters, is refused by a limit on steps alone
+abbrev pub NeverRefuses : Schema → Command → Row → Type 0
+NeverRefuses schema command params =
+    (limit : Option ℕ) (db : Database) (e : Error) → db.schema ≡ schema →
+    RefusesToRead limit command db params e → (e ≡ SqliteFailure code.OperationInterrupted) × IsSome limit
+
+-- a command that reads no table that it makes itself
+abbrev pub IsSimple : Command → Type 0
+IsSimple (Select plan names) = lets_of plan ≡ []
+IsSimple _ = ⊥
+
+-- one whole statement with as many parameters, which shows rows of the tables, whatever they have
+pub record IsSureCommand (schema : Schema) (text : List ℕ) (params : Row) (c : Compiled) : Type 0 where
+  pub bare : c.returning ≡ None
+  pub timeless : c.formats ≡ []
+  pub given : length params ≡ length c.names
+  pub whole : length text ≤ c.tail
+  pub simple : IsSimple c.command
+  pub never : NeverRefuses schema c.command params
+
+abbrev pub IsSureMeaning : Schema → List ℕ → Row → Result Compiled CompileError → Type 0
+IsSureMeaning schema text params (Ok c) = IsSureCommand schema text params c
+IsSureMeaning schema text params (Err e) = ⊥
+
+-- a query under this schema that, with these parameters, only memory, the disk and a limit on steps refuse
+pub record IsSureGiven (schema : Schema) (text : List ℕ) (params : Row) : Type 0 where
+  pub means : IsSureMeaning schema text params (understood schema text)
+  pub unlisted : reads_listing schema text ≡ false
+
+-- such a query without parameters
+abbrev pub IsSure : Schema → List ℕ → Type 0
+IsSure schema text = IsSureGiven schema text []
+
+-- the error that is reported: `OutOfMemory` instead of `TooBig`, which means too many rows to count
+abbrev pub too_big_as_out_of_memory : Error → Error
+too_big_as_out_of_memory (SqliteFailure code.TooBig) = SqliteFailure code.OutOfMemory
+too_big_as_out_of_memory e = e
+
+-- the schema's tables, so far as they are made, but in one of them a rowid is no whole number, or comes twice
+pub record IsMisnumbered (db : Database) : Type 0 where
+  pub made : TablesPresent
+  pub schema : db.schema ≡ schema_of made
+  pub unsound : ¬ IsMadeTo made db
+
+module _ {S : Type 0} (g : Ghosts S) (old new : Held S) where
+  -- the disk's count of faults rose
+  abbrev pub HasDiskFailed : Type 0
+  HasDiskFailed = MoreFaults (state g old).faults (state g new).faults
+
+  abbrev pub HasNoSteps : Error → Type 0
+  HasNoSteps e = (e ≡ SqliteFailure code.OperationInterrupted) × IsSome old.step_limit
+
+  -- memory ran out, the disk failed meanwhile, or the connection allows too few steps
+  abbrev pub IsRefusal : Error → Type 0
+  IsRefusal e = (e ≡ SqliteFailure code.OutOfMemory) ⊎ (HasDiskFailed ⊎ HasNoSteps e)
+
+  -- an error as in `IsRefusal`, or `DatabaseCorrupt` if the table's rowids are not whole numbers, each once
+  abbrev pub IsUnnumbered : DeskTable → Error → Type 0
+  IsUnnumbered table e = IsRefusal e ⊎ ((e ≡ SqliteFailure code.DatabaseCorrupt)
+      × (¬ AreNumbered ((state g old).now.trees (tree_of table))))
+
+  -- an error as in `IsRefusal`, or `DatabaseCorrupt` if the rowids of some table are not
+  abbrev pub AreRowsUnread : Error → Type 0
+  AreRowsUnread e = IsRefusal e ⊎ ((e ≡ SqliteFailure code.DatabaseCorrupt) × IsMisnumbered (state g old).now)
+
+-- ==== What a text of SQL selects, changes or makes
 -- ---- what a query shows
-
 -- a compiled query that may return these rows
 abbrev pub MayRead : Result Compiled CompileError → Database → Row → List Row → Type 0
 MayRead (Ok c) db params rows = Reads c.command db params rows
@@ -47,7 +104,6 @@ abbrev pub rowids : List Row → List Row
 rowids rows = map (λ r. rowid r ∷ []) rows
 
 -- ---- what a statement writes
-
 -- each foreign key is tested at the end of each statement
 abbrev pub enforced : Mode
 enforced = record { keys = Enforced; in_doubt = false; may_wait = false }

@@ -2,8 +2,7 @@
 //! function here makes these calls and does nothing else.
 
 ghost use Rattle.std.specs.Prelude.{◌≡◌, false, IsTrue};
-ghost use Rattle.sqlite.specs.State.{IsLive};
-ghost use Rattle.sqlite.specs.Held.{state};
+ghost use Rattle.sqlite.specs.{State.IsLive, Held.state};
 
 use sqlite::{Alter, Connection};
 

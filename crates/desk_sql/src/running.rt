@@ -1,11 +1,8 @@
 //! A statement that writes, run within a transaction.
 
 ghost use Rattle.std.specs.Prelude.{◌≡◌, true, IfOk, IfErr, IsTrue, Ok, Err};
-ghost use Rattle.sqlite.specs.Values.{bound};
-ghost use Rattle.sqlite.specs.State.{HasCleanDisk, Executes, ExecutesInside, Shows};
-ghost use Rattle.sqlite.specs.Held.{state};
-ghost use Rattle.desk_sql.specs.QueryEnds.{IsUndone};
-ghost use Rattle.desk_sql.specs.Frames.{Remembers};
+ghost use Rattle.sqlite.specs.{Values.bound, State.HasCleanDisk, State.Executes, State.ExecutesInside, State.Shows, Held.state};
+ghost use Rattle.desk_sql.specs.{Queries.IsUndone, Effects.Remembers};
 
 use sqlite::{Alter, Error, Transaction};
 use sqlite_value::value::ValueRef;

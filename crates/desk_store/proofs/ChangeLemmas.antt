@@ -9,12 +9,9 @@ use Rattle.std.specs.List.Sorted.{IsStrictlySortedBy}
 use Rattle.std.proofs.lemmas.Map.Lookups.{exact_bytes}
 use Rattle.desk_rules.specs.declared.plan.PlanRow.{PlanRow}
 use Rattle.desk_store.specs.declared.list.CeilingEntry.{CeilingEntry}
-use Rattle.desk_store.specs.World.{Filed, World, text_cmp, filed_cmp, rows_by, plans_of}
+use Rattle.desk_store.specs.World.{Filed, World, text_cmp, filed_cmp, rows_by, plans_of, is_own, PlanParts, row_of, closed_parts, listed_of, filed_of, filed_all, world_in_lists, is_one_of, without}
 use Rattle.desk_store.specs.Changes.{replaced, with_plans, closed, close_row, clear_rows}
-use Rattle.desk_store.specs.OwnRows.{is_own}
 use Rattle.desk_store.proofs.lemmas.Change.{stays, close_filed, cleared_plans, closed_plans}
-use Rattle.desk_store.specs.Parts.{PlanParts, row_of, closed_parts}
-use Rattle.desk_store.specs.Listing.{listed_of, filed_of, filed_all, world_in_lists, is_one_of, without}
 use Rattle.desk_store.proofs.EntryLemmas.{Key, key_cmp, filed_sorted}
 
 filter_filed : (o : List ℕ) (ids : List (List ℕ)) (es : List (Key × PlanParts))

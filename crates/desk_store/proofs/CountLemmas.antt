@@ -10,9 +10,7 @@ use Rattle.std.specs.Map.{lookup, set_value, keys_of}
 use Rattle.std.specs.List.Sorted.{IsStrictlySortedBy}
 use Rattle.std.proofs.lemmas.Map.Lookups.{exact_bytes}
 use Rattle.desk_store.specs.declared.list.CeilingEntry.{CeilingEntry}
-use Rattle.desk_store.specs.World.{Filed, text_cmp, rows_by, ceiling_of}
-use Rattle.desk_store.specs.Parts.{PlanParts}
-use Rattle.desk_store.specs.Listing.{listed_of, filed_all, world_in_lists, AreCounted, IsStore, with_count}
+use Rattle.desk_store.specs.World.{Filed, text_cmp, rows_by, ceiling_of, PlanParts, listed_of, filed_all, world_in_lists, AreCounted, IsStore, with_count}
 use Rattle.desk_store.proofs.lemmas.Order.{is_equal, all_weaker}
 use Rattle.desk_store.proofs.lemmas.World.{unlisted_none}
 use Rattle.desk_store.proofs.EntryLemmas.{Key}

@@ -7,11 +7,9 @@ use Rattle.std.specs.List.Sorted.{IsStrictlySortedBy}
 use Rattle.std.specs.BTreeMap.{insert_entry}
 use Rattle.std.specs.Map.{keys_of}
 use Rattle.std.proofs.lemmas.Map.Lookups.{exact_bytes}
-use Rattle.desk_store.specs.World.{text_cmp, rows_by, filed_cmp}
+use Rattle.desk_store.specs.World.{text_cmp, rows_by, filed_cmp, PlanParts, row_of, filed_of, filed_all}
 use Rattle.desk_store.specs.Changes.{put_row, put_filed, filed_by, replaced}
 use Rattle.desk_store.proofs.lemmas.Order.{inserted}
-use Rattle.desk_store.specs.Parts.{PlanParts, row_of}
-use Rattle.desk_store.specs.Listing.{filed_of, filed_all}
 
 abbrev pub Key : Type 0
 Key = List ℕ × List ℕ

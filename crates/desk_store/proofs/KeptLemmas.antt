@@ -15,12 +15,8 @@ use Rattle.desk_rules.specs.Limits.{max_plans}
 use Rattle.desk_store.specs.declared.change.Change.{Change}
 use Rattle.desk_store.specs.declared.change.Change.TheVariants.{Put, Close}
 use Rattle.desk_store.specs.declared.list.CeilingEntry.{CeilingEntry}
-use Rattle.desk_store.specs.World.{World, text_cmp, rows_by, plans_of, stored_of, has_id}
-use Rattle.desk_store.specs.Content.{IsPlan, IsContent}
-use Rattle.desk_store.specs.Changes.{put_row, closed, close_row, is_named, clear_rows, with_plans}
-use Rattle.desk_store.specs.StoreChange.{changed_by, IsFitting}
-use Rattle.desk_store.specs.Parts.{PlanParts, parts_of, row_of}
-use Rattle.desk_store.specs.Listing.{filed_all, world_in_lists, AreCounted, IsStore, with_count, without}
+use Rattle.desk_store.specs.World.{World, text_cmp, rows_by, plans_of, stored_of, has_id, IsPlan, IsContent, PlanParts, parts_of, row_of, filed_all, world_in_lists, AreCounted, IsStore, with_count, without}
+use Rattle.desk_store.specs.Changes.{put_row, closed, close_row, is_named, clear_rows, with_plans, changed_by, IsFitting}
 use Rattle.desk_store.proofs.lemmas.Order.{is_equal, rows_sorted}
 use Rattle.desk_store.proofs.lemmas.World.{own_replaced, others_kept, fewer, length-put_stored}
 use Rattle.desk_store.proofs.lemmas.Content.{put_content, close_content, clear_content}

@@ -3,12 +3,10 @@ use Rattle.std.proofs.Common.{◌≡◌, Bool, true, false, true≢false, ◌||�
 use Rattle.std.specs.List.{list_any}
 use Rattle.std.proofs.lemmas.Bool.{or_cases, or_right}
 use Rattle.volume4d.specs.declared.slab.Slab.{Slab}
-use Rattle.volume4d.specs.Point.{Point}
-use Rattle.volume4d.specs.Volume.{Block, area_has}
-use Rattle.volume4d.specs.Slab.{slab_has, slabs_have}
-use Rattle.volume4d.specs.Bounds.{overlap}
+use Rattle.volume4d.specs.Volume.{Point, Block, area_has}
+use Rattle.volume4d.specs.Slab.{slab_has, slabs_have, overlap}
 use Rattle.volume4d.proofs.lemmas.Bounds.{overlapping}
-use Rattle.desk_store.specs.Parts.{AreSlabs, SharesNoPoint}
+use Rattle.desk_store.specs.World.{AreSlabs, SharesNoPoint}
 
 -- a slab that has a point of one of some others overlaps one of them
 pub overlaps_at : (slab : Slab) (others : List Slab) (x : Point) → slab_has slab x ≡ true

@@ -4,15 +4,12 @@ use Rattle.std.specs.Prelude.{nat_le, max}
 use Rattle.std.proofs.lemmas.List.Folds.{list_any_more}
 use Rattle.volume4d.specs.declared.slab.Slab.{Slab}
 use Rattle.volume4d.specs.declared.slab.Held.{Held}
-use Rattle.volume4d.specs.Point.{Point}
-use Rattle.volume4d.specs.Volume.{area_has}
-use Rattle.volume4d.specs.Slab.{slab_has, slabs_have, top_held}
-use Rattle.volume4d.specs.Level.{greater, level_where}
+use Rattle.volume4d.specs.Volume.{Point, area_has}
+use Rattle.volume4d.specs.Slab.{slab_has, slabs_have, top_held, greater, level_where}
 use Rattle.volume4d.proofs.lemmas.Level.{greater_none, greater_assoc, top_held-push, top_held-nil}
-use Rattle.desk_rules.specs.Plan.{is_live, row_holds}
+use Rattle.desk_rules.specs.Outcome.{is_live, row_holds}
 use Rattle.desk_rules.specs.Conflict.{at_least}
-use Rattle.desk_store.specs.World.{Filed, is_by}
-use Rattle.desk_store.specs.OwnRows.{is_own, rival_level, rivals_top, other_level, others_top}
+use Rattle.desk_store.specs.World.{Filed, is_by, is_own, rival_level, rivals_top, other_level, others_top}
 use Rattle.desk_store.proofs.lemmas.Rival.{at_least_greater, rivals_top-cons, rivals_top-nil, others_top-cons, others_top-nil}
 
 max_itself : (n : ℕ) → max n n ≡ n

@@ -1,20 +1,16 @@
 -- How many spans an operator's plans take, and how many cells they have.
 use Rattle.std.proofs.Common.{◌≡◌, ℕ, ◌+◌, ◌*◌, ◌≤◌, Bool, true, false, cond, List, [], ◌∷◌, length, map, refl, ap, arith, IsTrue}
 use Rattle.std.specs.Prelude.{nat_le}
-use Rattle.std.specs.List.{AllByRecursion, filter}
+use Rattle.std.specs.List.{AllByRecursion, filter, sum_by}
 use Rattle.std.proofs.lemmas.Bool.{and_parts, leb-true}
 use Rattle.std.proofs.lemmas.List.Sums.{sum_by-cons}
 use Rattle.volume4d.specs.VolumeLimits.{max_cover, max_volumes}
-use Rattle.volume4d.specs.FootprintBytes.{HasValidParts}
-use Rattle.volume4d.specs.Shape.{is_footprint}
-use Rattle.std.specs.List.{sum_by}
-use Rattle.volume4d.specs.SpanCounts.{volume_cells, volume_spans, area_cells, area_spans}
-use Rattle.volume4d.specs.Volume.{Block}
+use Rattle.volume4d.specs.Footprint.{HasValidParts}
+use Rattle.volume4d.specs.Volume.{is_footprint, volume_cells, volume_spans, area_cells, area_spans, Block}
 use Rattle.desk_rules.specs.declared.plan.PlanRow.{PlanRow}
 use Rattle.desk_rules.specs.Limits.{max_plans}
-use Rattle.desk_rules.specs.Plan.{is_live, row_cells, row_spans}
-use Rattle.desk_store.specs.Content.{IsValidVolume, IsPlan, IsContent}
-use Rattle.desk_store.specs.World.{Filed, World, has_id, is_by, cells_beside, count_beside, count_unless, plans_of, rows_by, sizes_beside, spans_beside}
+use Rattle.desk_rules.specs.Outcome.{is_live, row_cells, row_spans}
+use Rattle.desk_store.specs.World.{IsValidVolume, IsPlan, IsContent, Filed, World, has_id, is_by, cells_beside, count_beside, count_unless, plans_of, rows_by, sizes_beside, spans_beside}
 use Rattle.desk_store.specs.declared.sizes.Sizes.{Sizes}
 use Rattle.desk_store.proofs.lemmas.Content.{own_plans}
 

@@ -10,12 +10,10 @@ use Rattle.std.specs.List.Sorted.{IsStrictlySortedBy}
 use Rattle.std.proofs.lemmas.List.{append_assoc}
 use Rattle.std.proofs.lemmas.Map.Lookups.{exact_bytes}
 use Rattle.desk_rules.specs.declared.plan.PlanRow.{PlanRow}
-use Rattle.desk_rules.specs.States.{states_in, states_of}
+use Rattle.desk_rules.specs.Outcome.{states_in, states_of}
 use Rattle.desk_store.specs.declared.list.CeilingEntry.{CeilingEntry}
-use Rattle.desk_store.specs.World.{Filed, Listed, World, text_cmp, rows_by, plans_of, is_by, stored_of, has_id}
+use Rattle.desk_store.specs.World.{Filed, Listed, World, text_cmp, rows_by, plans_of, is_by, stored_of, has_id, PlanParts, row_of, kept_states, listed_of, filed_of, filed_all, world_in_lists}
 use Rattle.desk_store.specs.Changes.{list_operator, put_row, replaced, with_operator, with_plans}
-use Rattle.desk_store.specs.Parts.{PlanParts, row_of, kept_states}
-use Rattle.desk_store.specs.Listing.{listed_of, filed_of, filed_all, world_in_lists}
 use Rattle.desk_store.proofs.EntryLemmas.{Key, key_cmp, entry_inserted}
 
 -- the ceiling that a look-up finds

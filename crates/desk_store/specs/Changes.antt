@@ -1,11 +1,12 @@
--- How worlds change.
-use Rattle.std.specs.Prelude.{ℕ, List, [], ◌∷◌, ◌++◌, Bool, not, cond, map, ◌<◌, ◌⊎◌, length, IsSome}
-use Rattle.std.specs.List.{filter, list_any, All, IsDistinct}
-use Rattle.std.specs.Ordering.{is_eq, is_lt, is_gt, match_ordering}
+-- How worlds change, the changes that a store is asked for, its faults, and what every call preserves.
+use Rattle.std.specs.Prelude.{ℕ, List, [], ◌∷◌, ◌++◌, Bool, not, cond, map, ◌<◌, ◌⊎◌, length, IsSome, ◌≤◌, ◌≡◌, ◌-◌, ◌^◌, codes, Option}
+use Rattle.std.specs.{List.filter, List.list_any, List.All, List.IsDistinct, Ordering.is_eq, Ordering.is_lt, Ordering.is_gt, Ordering.match_ordering}
 use Rattle.desk_rules.specs.declared.plan.PlanRow.{PlanRow}
 use Rattle.desk_rules.specs.declared.words.Usage.TheVariants as usage
-use Rattle.desk_store.specs.World.{Filed, Listed, World, text_cmp, filed_cmp, plans_of, has_id, stored_of}
-use Rattle.desk_rules.specs.Limits.{max_plans}
+use Rattle.desk_rules.specs.Limits.{max_plans, max_priority}
+use Rattle.desk_store.specs.World.{Filed, Listed, World, text_cmp, filed_cmp, plans_of, has_id, stored_of, ceiling_of, LeavesNoMore}
+use Rattle.desk_store.specs.declared.{change.Change.Change, change.Change.TheVariants.Enrol, change.Change.TheVariants.Put, change.Change.TheVariants.Close, change.Change.TheVariants.Clear, fault.StoreFault.StoreFault, fault.StoreFault.TheVariants.OutOfMemory, fault.StoreFault.TheVariants.Store}
+use Rattle.desk_store.specs.declared.change.Change.TheVariants as change
 
 -- rows ascending by id, with `row` in place of the one with its id, or inserted where its id belongs
 abbrev pub put_row : PlanRow → List PlanRow → List PlanRow
@@ -76,3 +77,70 @@ AreStored ids rows = All (λ id. IsSome (stored_of id rows)) ids
 -- no id is there twice
 abbrev pub AreDistinct : List (List ℕ) → Type 0
 AreDistinct ids = IsDistinct (λ a b. is_eq (text_cmp a b)) ids
+
+-- a change whose ids are a list
+pub data ChangeParts : Type 0 where
+  enrol : List ℕ → ℕ → ChangeParts
+  put : List ℕ → PlanRow → ChangeParts
+  close : List ℕ → List ℕ → ChangeParts
+  clear : List ℕ → List (List ℕ) → ChangeParts
+
+-- the parts of a change
+abbrev pub parts_in : Change → ChangeParts
+parts_in (change.Enrol operator ceiling) = enrol operator ceiling
+parts_in (change.Put operator row) = put operator row
+parts_in (change.Close operator id) = close operator id
+parts_in (change.Clear operator ids) = clear operator ids.items
+
+-- the world after a change: Enrol adds an operator or replaces its ceiling, Put stores a row under its id,
+-- Close closes the row with the id, and Clear removes rows
+unfoldable pub changed_by : Change → World → World
+changed_by (Enrol operator ceiling) w = with_operator w operator ceiling
+changed_by (Put operator row) w = with_plans w operator (put_row row (plans_of operator w))
+changed_by (Close operator id) w = with_plans w operator (close_row id (plans_of operator w))
+changed_by (Clear operator ids) w = with_plans w operator (clear_rows ids.items (plans_of operator w))
+
+-- whether a change fits a world: ceilings and priorities are at most 1,000; a Put keeps the limit of 200
+-- plans; the operator of a changed plan is enrolled; and the plans to close or to remove are stored
+unfoldable pub IsFitting : Change → World → Type 0
+IsFitting (Enrol operator ceiling) w = ceiling ≤ max_priority
+IsFitting (Put operator row) w = HasRoom w operator row.id × (row.priority ≤ max_priority)
+    × IsSome (ceiling_of operator w)
+IsFitting (Close operator id) w = IsSome (ceiling_of operator w) × IsSome (stored_of id (plans_of operator w))
+IsFitting (Clear operator ids) w = IsSome (ceiling_of operator w) × AreStored ids.items (plans_of operator w)
+    × AreDistinct ids.items
+
+-- ==== The faults of a store's storage, and doubt of what the storage returned
+-- the storage is intact: each read returned what was written
+abbrev pub IsHonest : ℕ → Type 0
+IsHonest doubt = doubt ≡ 0
+
+-- a count of 64 bits rose, unless it has the greatest value, at which it stays
+abbrev pub HasRisen : ℕ → ℕ → Type 0
+HasRisen old new = new < 2 ^ 64 - 1 → old < new
+
+-- if the error is `Store`, the store's count of faults rose
+abbrev pub IsCounted : {S : Type 0} → (S → ℕ) → S → S → StoreFault → Type 0
+IsCounted faults_of old new e = e ≡ Store → HasRisen (faults_of old) (faults_of new)
+
+-- the fault as a sentence
+abbrev pub store_fault_text : StoreFault → List ℕ
+store_fault_text OutOfMemory = codes "out of memory"
+store_fault_text Store = codes "the store failed"
+
+-- the doubt and the count of faults do not decrease, and a shielded store stays shielded
+pub record Remembers {S : Type 0} (doubt_of faults_of : S → ℕ) (is_shielded : S → Type 0) (old new : S) :
+    Type 0 where
+  pub doubt : doubt_of old ≤ doubt_of new
+  pub counted : faults_of old ≤ faults_of new
+  pub shield : is_shielded old → is_shielded new
+
+-- a call that only reads: the same; the content stays; after a crash a start finds only what it could before
+pub record OnlyReads {S : Type 0} (content_of : S → World) (doubt_of faults_of : S → ℕ)
+    (may_leave : S → Option World → Type 0) (is_shielded : S → Type 0) (old new : S) : Type 0
+  where
+    pub same : content_of new ≡ content_of old
+    pub crash : IsHonest (doubt_of new) → LeavesNoMore (may_leave old) (may_leave new)
+    pub doubt : doubt_of old ≤ doubt_of new
+    pub counted : faults_of old ≤ faults_of new
+    pub shield : is_shielded old → is_shielded new

@@ -1,7 +1,7 @@
 //! The changes that a store can make.
 
 ghost use Rattle.std.specs.Prelude.{◌≡◌, IfOk};
-ghost use Rattle.desk_store.specs.ChangeParts.{parts_in};
+ghost use Rattle.desk_store.specs.Changes.{parts_in};
 
 use desk_rules::operator::Operator;
 use desk_rules::plan::PlanRow;

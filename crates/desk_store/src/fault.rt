@@ -16,7 +16,7 @@ pub enum StoreFault {
 // The fault as a sentence.
 impl fmt::Display for StoreFault {
     ghost use Rattle.std.specs.Prelude.{Some};
-    ghost use Rattle.desk_store.specs.StoreFaults.{store_fault_text};
+    ghost use Rattle.desk_store.specs.Changes.{store_fault_text};
 
     ghost output = { λ fault. Some (store_fault_text fault) };
 

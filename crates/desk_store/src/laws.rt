@@ -3,8 +3,7 @@
 ghost use Rattle.std.specs.Prelude.{ℕ, ◌*◌, ◌≤◌, List};
 ghost use Rattle.volume4d.specs.VolumeLimits.{max_cover, max_volumes};
 ghost use Rattle.desk_rules.specs.Limits.{max_plans};
-ghost use Rattle.desk_store.specs.Content.{IsContent};
-ghost use Rattle.desk_store.specs.World.{World, cells_beside, plans_of, spans_beside};
+ghost use Rattle.desk_store.specs.World.{IsContent, World, cells_beside, plans_of, spans_beside};
 
 use volume4d::laws;
 

@@ -4,10 +4,9 @@
 ghost use Rattle.std.specs.Prelude.{IsTrue};
 ghost use Rattle.std.specs.List.{AllByRecursion};
 ghost use Rattle.s2_cellid.specs.Cell.{IsCellId};
-ghost use Rattle.volume4d.specs.Footprint.{shape_of};
-ghost use Rattle.volume4d.specs.FootprintBytes.{HasValidParts};
-ghost use Rattle.desk_rules.specs.Name.{is_operator_name};
-ghost use Rattle.desk_store.specs.Content.{IsId, IsValidVolume, IsPlan};
+ghost use Rattle.volume4d.specs.Footprint.{shape_of, HasValidParts};
+ghost use Rattle.desk_rules.specs.Limits.{is_operator_name};
+ghost use Rattle.desk_store.specs.World.{IsId, IsValidVolume, IsPlan};
 
 use desk_rules::operator::Operator;
 use desk_rules::plan::PlanRow;

@@ -1,21 +1,12 @@
 //! A store in memory.
 
 ghost use Rattle.std.specs.Prelude.{◌≡◌, ◌+◌, ◌<◌, ◌≤◌, ◌^◌, ◌&&◌, ⊤, true, length, [], IfOk, OnOk, OnErr};
-ghost use Rattle.std.specs.List.Sorted.{IsNonDecreasingBy};
-ghost use Rattle.std.specs.Ordering.{is_eq};
-ghost use Rattle.volume4d.specs.Point.{Point};
-ghost use Rattle.volume4d.specs.Slab.{slabs_have, top_held};
-ghost use Rattle.desk_rules.specs.Conflict.{at_least};
-ghost use Rattle.desk_rules.specs.Limits.{max_plans};
-ghost use Rattle.desk_rules.specs.States.{states_of};
+ghost use Rattle.std.specs.{List.Sorted.IsNonDecreasingBy, Ordering.is_eq};
+ghost use Rattle.volume4d.specs.{Volume.Point, Slab.slabs_have, Slab.top_held};
+ghost use Rattle.desk_rules.specs.{Conflict.at_least, Limits.max_plans, Outcome.states_of, Outcome.row_cells, Outcome.row_spans};
 ghost use Rattle.desk_store.specs.World as world;
-ghost use Rattle.desk_store.specs.World.{text_cmp, rows_by, cells_beside, count_unless, sizes_beside, spans_beside, stored_of};
-ghost use Rattle.desk_rules.specs.Plan.{row_cells, row_spans};
-ghost use Rattle.desk_store.specs.OwnRows.{other_level, others_top, rival_level, rivals_top};
-ghost use Rattle.desk_store.specs.StoreChange.{changed_by, IsFitting};
-ghost use Rattle.desk_store.specs.Rivals.{HaveLevelNear, AddsLevelNear, AddsLevel};
-ghost use Rattle.desk_store.specs.Listing.{filed_of, filed_all, is_one_of, without};
-ghost use Rattle.desk_store.specs.Listing.{ceiling_at, count_at, with_count};
+ghost use Rattle.desk_store.specs.World.{text_cmp, rows_by, cells_beside, count_unless, sizes_beside, spans_beside, stored_of, other_level, others_top, rival_level, rivals_top, HaveLevelNear, AddsLevelNear, AddsLevel, filed_of, filed_all, is_one_of, without, ceiling_at, count_at, with_count};
+ghost use Rattle.desk_store.specs.Changes.{changed_by, IsFitting};
 ghost use Rattle.desk_store.specs.declared.change.Change.TheVariants as change;
 
 use crate::change::Change;
@@ -58,7 +49,7 @@ impl Model for ListStore {
 
     ghost Value = { World };
 
-    ghost use Rattle.desk_store.specs.Listing.{world_in_lists, IsStore};
+    ghost use Rattle.desk_store.specs.World.{world_in_lists, IsStore};
 
     ghost view = { λ s. world_in_lists s.operators.entries s.plans.entries };
 

@@ -2,14 +2,9 @@
 
 ghost use Rattle.std.specs.Prelude.{◌≡◌, ◌&&◌, cond, false, nat_le, IfOk, OnOk};
 ghost use Rattle.std.specs.List.{list_any};
-ghost use Rattle.volume4d.specs.Bounds.{overlap};
-ghost use Rattle.volume4d.specs.Volume.{area_has};
-ghost use Rattle.volume4d.specs.Level.{level_where};
-ghost use Rattle.volume4d.specs.SpanCounts.{area_cells, area_spans};
-ghost use Rattle.volume4d.specs.Slab.{slabs_have};
-ghost use Rattle.desk_rules.specs.Plan.{is_live};
-ghost use Rattle.desk_store.specs.Rivals.{AddsLevelNear, AddsLevel};
-ghost use Rattle.desk_store.specs.Parts.{parts_of, row_of, kept_states, closed_parts, SharesNoPoint};
+ghost use Rattle.volume4d.specs.{Slab.overlap, Slab.level_where, Slab.slabs_have, Volume.area_has, Volume.area_cells, Volume.area_spans};
+ghost use Rattle.desk_rules.specs.Outcome.{is_live};
+ghost use Rattle.desk_store.specs.World.{AddsLevelNear, AddsLevel, parts_of, row_of, kept_states, closed_parts, SharesNoPoint};
 
 use crate::sizes::Sizes;
 use desk_rules::plan::{PlanRow, States};
@@ -32,7 +27,7 @@ pub struct Plan {
 }
 
 impl Model for Plan {
-    ghost use Rattle.desk_store.specs.Parts.{PlanParts, AreSlabs};
+    ghost use Rattle.desk_store.specs.World.{PlanParts, AreSlabs};
 
     ghost Value = { PlanParts };
 

@@ -1,7 +1,7 @@
 //! Quota usage: the numbers of spans and of cells that plans have.
 
 ghost use Rattle.std.specs.Prelude.{◌≡◌, ◌+◌, ◌<◌, ◌^◌};
-ghost use Rattle.desk_rules.specs.Plan.{row_cells, row_spans};
+ghost use Rattle.desk_rules.specs.Outcome.{row_cells, row_spans};
 
 use desk_rules::plan::PlanRow;
 

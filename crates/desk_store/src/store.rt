@@ -1,11 +1,9 @@
 //! Stores of plans, as a desk uses them.
 
 ghost use Rattle.std.specs.Prelude.{◌≡◌, ℕ, length, Option, IfOk, IfErr, OnOk, OnErr};
-ghost use Rattle.desk_store.specs.StoreFrames.{OnlyReads, Remembers};
-ghost use Rattle.desk_store.specs.Content.{IsContent};
-ghost use Rattle.desk_store.specs.World.{World, ceiling_of, plans_of, sizes_beside, stored_of};
-ghost use Rattle.desk_store.specs.Rivals.{AreHeldByOthers, AreRivals, AreRivalsNear};
-ghost use Rattle.desk_rules.specs.States.{states_of};
+ghost use Rattle.desk_store.specs.Changes.{OnlyReads, Remembers};
+ghost use Rattle.desk_store.specs.World.{IsContent, World, ceiling_of, plans_of, sizes_beside, stored_of, AreHeldByOthers, AreRivals, AreRivalsNear};
+ghost use Rattle.desk_rules.specs.Outcome.{states_of};
 
 use crate::change::Change;
 use crate::fault::StoreFault;
@@ -26,9 +24,7 @@ use volume4d::{Held, Slab};
 /// has succeeded, the changed content only. A change that failed may still be found by the next start, though
 /// the running store doesn't show it.
 pub trait PlanStore {
-    ghost use Rattle.desk_store.specs.StoreChange.{changed_by, IsFitting};
-    ghost use Rattle.desk_store.specs.StoreFaults.{IsHonest, IsCounted};
-    ghost use Rattle.desk_store.specs.Crashes.{LeavesOldOr, LeavesOnly};
+    ghost use Rattle.desk_store.specs.{Changes.changed_by, Changes.IsFitting, Changes.IsHonest, Changes.IsCounted, World.LeavesOldOr, World.LeavesOnly};
 
     /// The operators and plans in the store.
     ghost content: { Self → World };

@@ -10,29 +10,21 @@ use Rattle.sqlite.specs.Held.{Held, state}
 use Rattle.sqlite_value.specs.declared.value.Value.TheVariants.{Int}
 use Rattle.sqlite_value.specs.Order.{Row, column}
 use Rattle.desk_sql.specs.Rows.{Tables, PutsOperator, ClosesPlan, tables_of}
-use Rattle.desk_changes.specs.Batches.{PutsPlan, RemovesPlans}
-use Rattle.desk_sql.specs.Effects.{Commits, MayMake, IsMadeOf}
-use Rattle.desk_sql.specs.Frames.{OnlyReads}
-use Rattle.desk_sql.specs.QueryEnds.{IsCommitted}
-use Rattle.desk_sql.specs.Refusals.{IsRefusal}
-use Rattle.desk_rules.specs.Name.{is_operator_name}
-use Rattle.desk_store.specs.World.{World}
-use Rattle.desk_store.specs.StoreChange.{changed_by, IsFitting}
+use Rattle.desk_changes.specs.RowChanges.{PutsPlan, RemovesPlans}
+use Rattle.desk_sql.specs.Effects.{Commits, MayMake, IsMadeOf, OnlyReads}
+use Rattle.desk_sql.specs.Queries.{IsCommitted}
+use Rattle.desk_sql.specs.Statements.{IsRefusal}
+use Rattle.desk_rules.specs.Limits.{is_operator_name}
+use Rattle.desk_store.specs.World.{World, IsId, IsPlan, IsContent}
+use Rattle.desk_store.specs.Changes.{changed_by, IsFitting, filed_by}
 use Rattle.desk_rules.specs.declared.plan.PlanRow.{PlanRow}
-use Rattle.desk_store.specs.Changes.{filed_by}
 use Rattle.desk_store.specs.declared.change.Change.{Change}
 use Rattle.desk_store.specs.declared.fault.StoreFault.{StoreFault}
 use Rattle.desk_store.specs.declared.change.Change.TheVariants.{Enrol, Put, Close}
-use Rattle.desk_store.specs.Content.{IsId, IsPlan, IsContent}
-use Rattle.row_codec.specs.PlanRows.{filed_put}
-use Rattle.row_codec.specs.Tables.{id_text, usage_number, aircraft_number, plan_rows, area_rows, area_covers, ArePlanSpanRows, AreTables}
-use Rattle.desk_tables.specs.Lookups.{own_of}
-use Rattle.desk_tables.specs.TableChanges.{ChangesRows, PutsRows, ClosesRows, ClearsRows, IsWithinLimits}
-use Rattle.desk_tables.specs.Causes.{BlamesStore}
-use Rattle.table_load.specs.Standing.{Stands}
-use Rattle.desk_tables.specs.Store.{HeldWorld}
-use Rattle.table_load.specs.Leaving.{HasWorld, MayHave}
-use Rattle.desk_tables.specs.ChangesMade.{HasFollowed, IsMade, IsNext}
+use Rattle.row_codec.specs.Tables.{filed_put, id_text, usage_number, aircraft_number, plan_rows, area_rows, area_covers, ArePlanSpanRows, AreTables}
+use Rattle.desk_tables.specs.Store.{own_of, ChangesRows, PutsRows, ClosesRows, ClearsRows, IsWithinLimits, BlamesStore, HeldWorld, HasFollowed, IsMade, IsNext}
+use Rattle.table_load.specs.Opening.{Stands}
+use Rattle.table_load.specs.Files.{HasWorld, MayHave}
 use Rattle.desk_tables.proofs.ChangeLemmas.{change_tables, change_content}
 use Rattle.desk_tables.proofs.SetLemmas.{operator_is_put}
 use Rattle.desk_tables.proofs.PutLemmas.{put_as, put_is_put}

@@ -7,12 +7,11 @@ use Rattle.sqlite_value.specs.Order.{Row}
 use Rattle.sqlite.specs.State.{HasCleanDisk}
 use Rattle.sqlite.specs.Held.{state}
 use Rattle.volume4d.specs.declared.slab.Held.{Held as One}
-use Rattle.desk_sql.specs.Frames.{OnlyReads}
+use Rattle.desk_sql.specs.Effects.{OnlyReads}
 use Rattle.desk_sql.specs.Rows.{tables_of}
-use Rattle.row_codec.specs.RivalRows.{HasTakenHelds, HaveTaken, HaveTakenAll}
-use Rattle.desk_tables.specs.ReadsMade.{spans_shown}
-use Rattle.table_load.specs.Standing.{Stands}
-use Rattle.desk_tables.specs.Store.{HeldWorld}
+use Rattle.row_codec.specs.RowsRead.{HasTakenHelds, HaveTaken, HaveTakenAll}
+use Rattle.desk_tables.specs.Store.{spans_shown, HeldWorld}
+use Rattle.table_load.specs.Opening.{Stands}
 use Rattle.desk_tables.proofs.HeldLemmas.{all_taken}
 use Rattle.table_load.proofs.lemmas.Frame.{reads_itself, reads_then}
 

@@ -1,7 +1,7 @@
 -- Why a reader answers that the store failed.
 use Rattle.std.proofs.Common.{◌≡◌, ◌≢◌, ◌≤◌, ◌<◌, ◌^◌, ◌⊎◌, ◌∙◌, ◌∷◌, inl, inr, ℕ, List, [], length, true, false, cond, Bool, Option, Some, None, Result, Ok, Err, IfErr, IfOk, OnErr, OnOk, IsTrue, IsPermutation, map, sym, ap, subst, true≢false, arith}
 use Rattle.std.specs.Prelude.{IsSome}
-use Rattle.desk_store.specs.StoreChange.{IsFitting}
+use Rattle.desk_store.specs.Changes.{IsFitting}
 use Rattle.desk_store.specs.declared.change.Change.TheVariants.{Close}
 use Rattle.std.specs.List.{AllByRecursion, AllZip, filter, find}
 use Rattle.std.proofs.lemmas.List.{append-nil}
@@ -13,28 +13,18 @@ use Rattle.sqlite.specs.declared.error.ErrorCode.TheVariants as code
 use Rattle.sqlite.specs.State.{HasCleanDisk}
 use Rattle.sqlite.specs.Held.{Held, state}
 use Rattle.volume4d.specs.Volume.{Block}
-use Rattle.desk_rules.specs.Limits.{max_priority}
+use Rattle.desk_rules.specs.Limits.{max_priority, max_plans}
 use Rattle.desk_rules.specs.declared.plan.PlanRow.{PlanRow}
-use Rattle.desk_sql.specs.Refusals.{HasDiskFailed, IsRefusal}
-use Rattle.desk_store.specs.OwnRows.{is_own}
-use Rattle.desk_store.specs.World.{Filed, World, plans_of, stored_of}
+use Rattle.desk_sql.specs.Statements.{HasDiskFailed, IsRefusal}
+use Rattle.desk_store.specs.World.{is_own, Filed, World, plans_of, stored_of, IsContent, IsPlan}
 use Rattle.desk_store.specs.declared.fault.StoreFault.{StoreFault}
 use Rattle.desk_store.specs.declared.fault.StoreFault.TheVariants.{Store}
-use Rattle.desk_tables.specs.Causes.{BlamesStore}
-use Rattle.row_codec.specs.ErrorFaults.{IsReportedAs}
-use Rattle.desk_store.specs.Content.{IsContent, IsPlan}
-use Rattle.desk_tables.specs.Lookups.{one_or_none, own_of}
-use Rattle.row_codec.specs.RowsRead.{IsHead, IsVolumeAt}
-use Rattle.row_codec.specs.Tables.{area_rows, plan_rows, row_of_plan, volume_rows}
-use Rattle.desk_tables.specs.Causes.{HasTooManySpans}
-use Rattle.row_codec.specs.Gathering.{BeginNoListing, HasCollected, HasNoArea}
-use Rattle.row_codec.specs.RowsRead.{listing_rows}
-use Rattle.row_codec.specs.RivalRows.{IsNoHeld}
-use Rattle.row_codec.specs.Tables.{AreTables}
+use Rattle.desk_tables.specs.Store.{BlamesStore, one_or_none, own_of, HasTooManySpans}
+use Rattle.row_codec.specs.RowsRead.{IsReportedAs, IsHead, IsVolumeAt, BeginNoListing, HasCollected, HasNoArea, listing_rows, IsNoHeld}
+use Rattle.row_codec.specs.Tables.{area_rows, plan_rows, row_of_plan, volume_rows, AreTables}
 use Rattle.row_codec.specs.declared.values.PlanHead.{PlanHead}
-use Rattle.desk_rules.specs.Limits.{max_plans}
 use Rattle.desk_sql.specs.Rows.{columns_from_first, tables_of}
-use Rattle.desk_sql.specs.Taking.{IsTakenInPart}
+use Rattle.desk_sql.specs.Queries.{IsTakenInPart}
 use Rattle.std.specs.Result.{IsErrAnd}
 use Rattle.std.proofs.lemmas.List.{length-map}
 use Rattle.std.proofs.lemmas.List.Sorted.{length_permutation}

@@ -17,18 +17,15 @@ use Rattle.volume4d.specs.Volume.{Block}
 use Rattle.desk_rules.specs.declared.plan.PlanRow.{PlanRow}
 use Rattle.desk_sql.specs.Rows as sql
 use Rattle.desk_sql.specs.Rows.{Tables, is_not_of}
-use Rattle.desk_store.specs.World.{Filed, Listed, World, text_cmp, listed_cmp, filed_cmp, plans_of, is_by}
-use Rattle.desk_store.specs.Changes.{put_filed, filed_by, put_row, list_operator, with_plans, with_operator, replaced, closed, close_row, clear_rows}
-use Rattle.desk_store.specs.OwnRows.{is_own}
+use Rattle.desk_store.specs.World.{Filed, Listed, World, text_cmp, listed_cmp, filed_cmp, plans_of, is_by, is_own, IsId, IsPlan, IsContent}
+use Rattle.desk_store.specs.Changes.{put_filed, filed_by, put_row, list_operator, with_plans, with_operator, replaced, closed, close_row, clear_rows, changed_by, IsFitting}
 use Rattle.desk_store.proofs.lemmas.Order.{inserted, all_weaker}
 use Rattle.desk_store.proofs.lemmas.Content.{enrol_content, put_content, close_content, clear_content}
 use Rattle.desk_store.proofs.lemmas.Change.{stays, cleared_plans, close_filed, closed_plans}
-use Rattle.desk_store.specs.StoreChange.{changed_by, IsFitting}
 use Rattle.desk_store.specs.declared.change.Change.{Change}
 use Rattle.desk_store.specs.declared.change.Change.TheVariants.{Enrol, Put, Close, Clear}
 use Rattle.row_codec.specs.Tables.{id_text, row_of_operator, operator_rows, row_of_plan, plan_rows, row_of_volume, rows_from, area_rows, volume_rows, row_of_cover, area_covers, cover_rows, AreSpanRows, HasNoOldRows, AreTables}
-use Rattle.desk_store.specs.Content.{IsId, IsPlan, IsContent}
-use Rattle.desk_tables.specs.TableChanges.{with_usage, EnrolsRows, PutsRows, ClosesRows, ClearsRows, ChangesRows, IsWithinLimits, closed_if, is_left}
+use Rattle.desk_tables.specs.Store.{with_usage, EnrolsRows, PutsRows, ClosesRows, ClearsRows, ChangesRows, IsWithinLimits, closed_if, is_left}
 use Rattle.row_codec.proofs.lemmas.Order.{after_key}
 use Rattle.row_codec.proofs.lemmas.Order.{ArePlans, turned}
 use Rattle.desk_tables.proofs.FilterLemmas.{own_row, other_row, left_row, plans_filtered, volumes_filtered, covers_filtered, plan_spans_filtered, spans_filtered, spans_moved}

@@ -6,13 +6,13 @@ use Rattle.sqlite_value.specs.Order.{Row}
 use Rattle.sqlite_keyed.proofs.ListLemmas.{IsPermutation-filter, IsPermutation-same}
 use Rattle.s2_cover.specs.declared.spans.Span.{Span}
 use Rattle.volume4d.specs.Volume.{Block}
-use Rattle.desk_rules.specs.Plan.{is_live}
+use Rattle.desk_rules.specs.Outcome.{is_live}
 use Rattle.desk_sql.specs.Rows.{Tables, is_of}
-use Rattle.desk_changes.specs.Batches.{RemovesPlans, is_of_none}
+use Rattle.desk_changes.specs.RowChanges.{RemovesPlans, is_of_none}
 use Rattle.desk_store.specs.World.{Filed, World}
 use Rattle.desk_store.proofs.lemmas.Order.{all_weaker}
 use Rattle.row_codec.specs.Tables.{id_text, row_of_plan, plan_rows, row_of_volume, rows_from, volume_rows, row_of_cover, cover_rows, row_of_span, AreSpanRowsFrom, ArePlanSpanRows, AreSpanRows, AreTables}
-use Rattle.desk_tables.specs.TableChanges.{ClearsRows, is_left}
+use Rattle.desk_tables.specs.Store.{ClearsRows, is_left}
 use Rattle.row_codec.proofs.lemmas.Order.{after_place, placed, placed_rows}
 
 texts_any : (operator : List ℕ) (r : Row) (ids : List (List ℕ))

@@ -10,12 +10,9 @@ use Rattle.sqlite_value.specs.Order.{Row, column}
 use Rattle.sqlite_keyed.proofs.ListLemmas.{IsPermutation-same, all_kept}
 use Rattle.desk_sql.specs.Rows as sql
 use Rattle.desk_sql.specs.Rows.{Tables, is_of, with_row, ClosesPlan}
-use Rattle.desk_store.specs.World.{Filed, World, text_cmp}
-use Rattle.desk_store.specs.OwnRows.{is_own}
+use Rattle.desk_store.specs.World.{Filed, World, text_cmp, is_own, IsId, IsContent}
 use Rattle.row_codec.specs.Tables.{id_text, aircraft_number, row_of_plan, plan_rows, AreTables}
-use Rattle.desk_store.specs.Content.{IsId, IsContent}
-use Rattle.desk_tables.specs.Lookups.{one_or_none, own_of}
-use Rattle.desk_tables.specs.TableChanges.{ClosesRows, closed_if}
+use Rattle.desk_tables.specs.Store.{one_or_none, own_of, ClosesRows, closed_if}
 use Rattle.row_codec.proofs.lemmas.Order.{ArePlans}
 use Rattle.desk_tables.proofs.FilterLemmas.{own_row}
 use Rattle.desk_tables.proofs.ListingLemmas.{one_own}

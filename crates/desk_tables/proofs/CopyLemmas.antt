@@ -9,9 +9,8 @@ use Rattle.sqlite.specs.State.{HasCleanDisk}
 use Rattle.sqlite.specs.Held.{Held, state}
 use Rattle.desk_sql.specs.Effects.{Commits}
 use Rattle.desk_sql.specs.Rows.{Tables, tables_of, AddsOperator, AddsPlan}
-use Rattle.desk_store.specs.World.{Filed, Listed, World}
-use Rattle.desk_store.specs.Content.{IsContent}
-use Rattle.table_load.specs.Standing.{Stands}
+use Rattle.desk_store.specs.World.{Filed, Listed, World, IsContent}
+use Rattle.table_load.specs.Opening.{Stands}
 use Rattle.row_codec.specs.Tables.{row_of_operator, operator_rows, row_of_plan, plan_rows, volume_rows, cover_rows, AreTables}
 use Rattle.desk_tables.specs.Copying.{AddsHeadRows, AddsOperatorRows, AddsWorldRows}
 use Rattle.table_load.proofs.lemmas.Moving.{further}

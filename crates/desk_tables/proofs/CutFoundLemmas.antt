@@ -14,8 +14,8 @@ use Rattle.sqlite.specs.State.{HasCleanDisk}
 use Rattle.sqlite.specs.Held.{Held, state}
 use Rattle.sqlite.specs.Files.{over_files, file_state}
 use Rattle.sqlite.proofs.Theorems.{next_run}
-use Rattle.volume4d.specs.FootprintBytes.{footprint_bytes, HasValidParts}
-use Rattle.volume4d.specs.Shape.{Shape}
+use Rattle.volume4d.specs.Footprint.{footprint_bytes, HasValidParts}
+use Rattle.volume4d.specs.Volume.{Shape}
 use Rattle.desk_sql.specs.declared.opening.finding.TablesPresent.{TablesPresent}
 use Rattle.desk_sql.specs.declared.opening.finding.TablesPresent.TheVariants.{Nothing, Operators, Plans, OldVolumes, OldSpans, OldIndex, Volumes, Spans, All, Packed}
 use Rattle.desk_sql.specs.Schema.{desk_schema, operator_made, schema_of}
@@ -23,14 +23,11 @@ use Rattle.desk_sql.specs.Rows.{Tables, tables_of, tables_at, has_old_rows}
 use Rattle.desk_store.specs.World.{World}
 use Rattle.sqlite_wal.proofs.LogLemmas.{SeenMayStay}
 use Rattle.sqlite_store.specs.Laws.{settled_at}
-use Rattle.desk_sql.specs.Frames.{OnlyReads}
-use Rattle.table_load.specs.Files.{FindsFirst}
-use Rattle.table_load.specs.Opening.{BeginsWith}
-use Rattle.table_load.specs.Moving.{BeginsMoved}
-use Rattle.table_load.specs.HeldContent.{IsContentIn}
-use Rattle.table_load.specs.Standing.{IsDatabaseOf}
-use Rattle.table_load.specs.Leaving.{HasWorld, IsFoundAfter}
-use Rattle.table_load.specs.CutShort.{HasContent, HasOldWorld, IsCutShort, IsMovedOn, ShowContent}
+use Rattle.desk_sql.specs.Effects.{OnlyReads}
+use Rattle.table_load.specs.Files.{FindsFirst, HasWorld, IsFoundAfter}
+use Rattle.table_load.specs.Opening.{BeginsWith, IsDatabaseOf}
+use Rattle.table_load.specs.Moving.{BeginsMoved, IsContentIn}
+use Rattle.table_load.specs.OpeningSteps.{HasContent, HasOldWorld, IsCutShort, IsMovedOn, ShowContent}
 use Rattle.table_load.proofs.lemmas.Content.{of_rows}
 use Rattle.table_load.proofs.lemmas.Opening.{made_desk, old_rows_none}
 use Rattle.table_load.proofs.lemmas.Store.{nothing_holds}

@@ -11,21 +11,16 @@ use Rattle.sqlite.specs.Effect.{Database}
 use Rattle.sqlite.specs.State.{HasCleanDisk}
 use Rattle.sqlite.specs.Held.{Held, state}
 use Rattle.desk_sql.specs.Changing.{HasKey, IsNewRow, IsShort, FitsOperator, FitsPlan, LacksKey, has_same_key}
-use Rattle.desk_rules.specs.Name.{is_operator_name}
-use Rattle.desk_sql.specs.Effects.{IsOpenIfClean}
-use Rattle.desk_sql.specs.Finding.{Holds}
-use Rattle.desk_changes.specs.Putting.{HasRoomFor, HaveOwnKeys, TakesOperators, TakesRoom}
+use Rattle.desk_rules.specs.Limits.{is_operator_name}
+use Rattle.desk_sql.specs.Effects.{IsOpenIfClean, Holds}
+use Rattle.desk_changes.specs.RowChanges.{HasRoomFor, HaveOwnKeys, TakesOperators, TakesRoom}
 use Rattle.desk_sql.specs.Rows.{AddsOperator, AddsPlan, Tables, by_cells, tables_of}
-use Rattle.desk_store.specs.World.{Filed, IsListed, Listed, World, filed_cmp, listed_cmp}
+use Rattle.desk_store.specs.World.{Filed, IsListed, Listed, World, filed_cmp, listed_cmp, IsContent}
 use Rattle.desk_store.proofs.lemmas.Order.{all_weaker}
 use Rattle.table_load.specs.declared.fault.OpenFault.{OpenFault}
-use Rattle.table_load.specs.Opening.{BlamesDatabase, BlamesReading}
+use Rattle.table_load.specs.Opening.{BlamesDatabase, BlamesReading, Stands, AreNewHeads, AreNewKeys, AreNewOperators, AreWritable, CanBeFilled, HaveFewRows}
 use Rattle.desk_tables.specs.Copying.{AddsHeadRows, AddsOperatorRows, BlamesNew}
-use Rattle.desk_store.specs.Content.{IsContent}
-use Rattle.row_codec.specs.Records.{IsFiled}
-use Rattle.table_load.specs.Standing.{Stands}
-use Rattle.row_codec.specs.Tables.{id_text, operator_rows, plan_rows, row_of_operator, row_of_plan}
-use Rattle.table_load.specs.Writable.{AreNewHeads, AreNewKeys, AreNewOperators, AreWritable, CanBeFilled, HaveFewRows}
+use Rattle.row_codec.specs.Tables.{IsFiled, id_text, operator_rows, plan_rows, row_of_operator, row_of_plan}
 use Rattle.table_load.proofs.lemmas.Assembly.{filed_within}
 use Rattle.table_load.proofs.lemmas.NewRow.{name_short}
 use Rattle.desk_tables.proofs.CopyLemmas.{alone}

@@ -11,14 +11,12 @@ use Rattle.sqlite_value.proofs.OrderLemmas.{value_cmp-Text}
 use Rattle.sqlite_keyed.proofs.ListLemmas.{along_permutation}
 use Rattle.s2_cover.specs.declared.spans.Span.{Span}
 use Rattle.volume4d.specs.Volume.{Block}
-use Rattle.desk_rules.specs.Plan.{is_live}
+use Rattle.desk_rules.specs.Outcome.{is_live}
 use Rattle.desk_sql.specs.Rows.{is_of, is_not_of}
-use Rattle.desk_store.specs.World.{Filed}
-use Rattle.desk_store.specs.OwnRows.{is_own}
+use Rattle.desk_store.specs.World.{Filed, is_own, IsId, IsPlan}
 use Rattle.desk_store.proofs.lemmas.Change.{stays}
 use Rattle.row_codec.specs.Tables.{id_text, row_of_plan, plan_rows, row_of_volume, rows_from, volume_rows, row_of_cover, cover_rows, row_of_span, AreSpanRowsFrom, ArePlanSpanRows, AreSpanRows}
-use Rattle.desk_store.specs.Content.{IsId, IsPlan}
-use Rattle.desk_tables.specs.TableChanges.{is_left}
+use Rattle.desk_tables.specs.Store.{is_left}
 use Rattle.row_codec.proofs.lemmas.Id.{text_order}
 use Rattle.row_codec.proofs.lemmas.Order.{after_key, after_place, placed, placed_rows}
 use Rattle.row_codec.proofs.lemmas.Order.{ArePlans, turned}

@@ -18,34 +18,29 @@ use Rattle.sqlite_keyed.proofs.ListLemmas.{along_permutation}
 use Rattle.s2_hilbert.specs.Curve.{position_of}
 use Rattle.s2_hilbert.proofs.lemmas.Curve.{leaf_undone}
 use Rattle.s2_cover.specs.declared.spans.Span.{Span}
-use Rattle.s2_cover.specs.Ranges.{IsRanges, span_has, spans_have}
+use Rattle.s2_cover.specs.Covers.{IsRanges, span_has, spans_have}
 use Rattle.volume4d.specs.declared.slab.Slab.{Slab}
 use Rattle.volume4d.specs.declared.slab.Held.{Held}
-use Rattle.volume4d.specs.Level.{greater, level_where, top_by}
+use Rattle.volume4d.specs.Slab.{greater, level_where, top_by, slab_has, slab_has_leaf, top_held}
 use Rattle.volume4d.proofs.lemmas.Level.{greater_none, greater_assoc, greater_comm, top_by-cons, top_by-append}
-use Rattle.volume4d.specs.Point.{Point, is_leaf}
+use Rattle.volume4d.specs.Volume.{Point, is_leaf, shape_has, shape_positions, Block, window_has, block_has, area_has}
 use Rattle.volume4d.proofs.lemmas.Point.{leaf_test}
-use Rattle.volume4d.specs.Shape.{shape_has, shape_positions}
-use Rattle.volume4d.specs.Slab.{slab_has, slab_has_leaf, top_held}
-use Rattle.volume4d.specs.Volume.{Block, window_has, block_has, area_has}
 use Rattle.desk_rules.specs.Conflict.{at_least}
-use Rattle.desk_rules.specs.Plan.{is_live, row_holds}
+use Rattle.desk_rules.specs.Outcome.{is_live, row_holds}
 use Rattle.desk_sql.specs.Rows as sql
 use Rattle.desk_sql.specs.Rows.{Tables, is_at_most, is_at_least, is_below, is_above, differs, columns_from_first}
-use Rattle.desk_store.specs.World.{Filed, World, held, is_by}
-use Rattle.desk_store.specs.OwnRows.{is_own, other_level, others_top, rival_level, rivals_top}
-use Rattle.desk_store.specs.Rivals.{AreRivals, HaveLevel}
+use Rattle.desk_store.specs.World.{Filed, World, held, is_by, is_own, other_level, others_top, rival_level, rivals_top, AreRivals, HaveLevel, IsId, IsPlan, IsContent}
 use Rattle.desk_store.proofs.lemmas.Rival.{others_top-cons, others_top-nil, held_by_others, rivals_top-cons, rivals_top-nil, held_by_rivals}
 use Rattle.row_codec.specs.Tables.{id_text, row_of_span, AreSpanRowsFrom, ArePlanSpanRows, AreSpanRows, AreTables}
-use Rattle.desk_store.specs.Content.{IsId, IsPlan, IsContent}
 use Rattle.row_codec.specs.declared.span_bounds.SpanBounds.{SpanBounds}
-use Rattle.row_codec.specs.SpanBounds.{FindAll, Bounds, HasKnownSpan, IsKnown, IsWithinExtent}
-use Rattle.row_codec.specs.RivalRows.{HaveTaken, HaveTakenAll, IsHeldIn, HasTakenHelds, is_asked, is_asked_if, span_filter_of}
-use Rattle.row_codec.specs.RivalRows.{AreWanted}
+use Rattle.row_codec.specs.SpanBounds.{FindAll, Bounds, IsKnown, IsWithinExtent}
+use Rattle.row_codec.specs.RowsRead.{HaveTaken, HaveTakenAll, IsHeldIn, HasTakenHelds, is_asked, span_filter_of, AreWanted}
 use Rattle.row_codec.proofs.lemmas.SpanBound.{asked_rival, tables_known}
 use Rattle.row_codec.proofs.lemmas.Order.{after_key}
 use Rattle.row_codec.proofs.lemmas.Order.{ArePlans, turned}
 use Rattle.desk_tables.proofs.FilterLemmas.{own_row}
+use Rattle.row_codec.proofs.lemmas.SpanBound.{is_asked_if}
+use Rattle.row_codec.proofs.lemmas.SpanBound.{HasKnownSpan}
 
 -- ---- the greatest of some elements
 

@@ -16,13 +16,11 @@ use Rattle.sqlite_keyed.proofs.ListLemmas.{IsPermutation-filter, IsPermutation-f
 use Rattle.volume4d.specs.Volume.{Block}
 use Rattle.desk_sql.specs.Rows as sql
 use Rattle.desk_sql.specs.Rows.{Tables, Lists, by_cells, joined, has_volume, with_volumes}
-use Rattle.desk_store.specs.World.{Filed, World, text_cmp, filed_cmp, is_by}
+use Rattle.desk_store.specs.World.{Filed, World, text_cmp, filed_cmp, is_by, is_own, IsPlan, IsContent}
 use Rattle.desk_store.proofs.lemmas.Order.{all_filter, all_append, all_kept, by_ids, name_of}
-use Rattle.desk_store.specs.OwnRows.{is_own}
 use Rattle.row_codec.specs.Tables.{id_text, row_of_plan, plan_rows, row_of_volume, area_rows, volume_rows, AreTables}
-use Rattle.desk_store.specs.Content.{IsPlan, IsContent}
 use Rattle.row_codec.specs.RowsRead.{joined_from, joined_rows, listing_rows}
-use Rattle.desk_tables.specs.Lookups.{one_or_none}
+use Rattle.desk_tables.specs.Store.{one_or_none}
 use Rattle.row_codec.proofs.lemmas.Id.{text_order}
 use Rattle.row_codec.proofs.lemmas.Order.{ArePlans, turned}
 use Rattle.desk_tables.proofs.FilterLemmas.{own_row, volumes_filtered}

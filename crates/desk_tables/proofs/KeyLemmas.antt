@@ -10,24 +10,20 @@ use Rattle.sqlite.specs.State.{HasCleanDisk}
 use Rattle.sqlite.specs.Held.{state}
 use Rattle.volume4d.specs.declared.slab.Slab.{Slab}
 use Rattle.volume4d.specs.declared.slab.Held.{Held as One}
-use Rattle.volume4d.specs.Level.{top_by}
+use Rattle.volume4d.specs.Slab.{top_by, slab_has, top_held}
 use Rattle.volume4d.proofs.lemmas.Level.{top_held-nil}
-use Rattle.volume4d.specs.Point.{Point}
-use Rattle.volume4d.specs.Slab.{slab_has, top_held}
+use Rattle.volume4d.specs.Volume.{Point}
 use Rattle.desk_rules.specs.Conflict.{at_least}
-use Rattle.desk_sql.specs.Frames.{OnlyReads}
+use Rattle.desk_sql.specs.Effects.{OnlyReads}
 use Rattle.desk_sql.specs.Rows as sql
 use Rattle.desk_sql.specs.Rows.{Tables, columns_from_first, tables_of}
-use Rattle.desk_store.specs.World.{Filed, World}
-use Rattle.desk_store.specs.Content.{IsContent, IsId, IsPlan}
-use Rattle.desk_store.specs.Rivals.{HaveLevel}
+use Rattle.desk_store.specs.World.{Filed, World, IsContent, IsId, IsPlan, HaveLevel}
 use Rattle.desk_store.proofs.lemmas.Order.{all_append}
 use Rattle.live_index.specs.declared.near.PlanKey.{PlanKey}
-use Rattle.live_index.specs.Near.{is_listed, listed_level, listed_top}
-use Rattle.row_codec.specs.RivalRows.{HasTakenHelds, HaveTaken, HaveTakenAll, is_asked_of_plan, span_filter_of}
-use Rattle.desk_tables.specs.ReadsMade.{spans_shown}
-use Rattle.table_load.specs.Standing.{Stands}
-use Rattle.desk_tables.specs.Store.{HeldWorld}
+use Rattle.live_index.specs.Live.{is_listed, listed_level, listed_top}
+use Rattle.row_codec.specs.RowsRead.{HasTakenHelds, HaveTaken, HaveTakenAll, is_asked_of_plan, span_filter_of}
+use Rattle.desk_tables.specs.Store.{spans_shown, HeldWorld}
+use Rattle.table_load.specs.Opening.{Stands}
 use Rattle.row_codec.specs.Tables.{AreTables, id_text}
 use Rattle.desk_tables.proofs.AskingLemmas.{IsAsking, asking_begins, asking_on}
 use Rattle.desk_tables.proofs.FilterLemmas.{own_row}

@@ -18,26 +18,29 @@ use Rattle.desk_sql.specs.declared.opening.finding.TablesPresent.{TablesPresent}
 use Rattle.desk_sql.specs.declared.opening.finding.TablesPresent.TheVariants.{Nothing, Operators, Plans, OldVolumes, OldSpans, OldIndex, Volumes, Spans, All, Packed}
 use Rattle.desk_sql.specs.Schema.{blank_schema, desk_schema, schema_of, operator_made}
 use Rattle.desk_sql.specs.Rows.{IsDesk, IsMadeTo, Tables, tables_of, tables_at, has_old_rows}
-use Rattle.desk_store.specs.World.{World}
-use Rattle.desk_store.specs.Crashes.{LeavesOnly, LeavesOldOr}
+use Rattle.desk_store.specs.World.{World, LeavesOnly, LeavesOldOr, IsContent}
 use Rattle.desk_store.specs.contracts.list.ListStore as list
 use Rattle.table_load.specs.declared.fault.OpenFault.{OpenFault}
 use Rattle.table_load.specs.declared.fault.OpenFault.TheVariants.{OutOfMemory, Store, NotADesk, OldSchema}
 use Rattle.row_codec.specs.Tables.{AreTables}
-use Rattle.desk_store.specs.Content.{IsContent}
-use Rattle.table_load.specs.Standing.{IsDatabaseOf, Stands}
-use Rattle.table_load.specs.Files.{AreRefused, IsUnread}
-use Rattle.table_load.specs.Opening.{IsPart, AreNoContent}
-use Rattle.table_load.specs.Leaving.{HasWorld, ReadsAs, MayLeave, MayHave, IsNotTakenAsIs, IsFoundAfter, BeginsAfter, IsImageLeft, IsLegible, IsRefusedAfter, IsRefusedAtRest}
+use Rattle.table_load.specs.Opening.{IsDatabaseOf, Stands, IsPart, AreNoContent}
+use Rattle.table_load.specs.Files.{AreRefused, IsUnread, HasWorld, ReadsAs, MayLeave, MayHave, IsFoundAfter, BeginsAfter, IsImageLeft, IsLegible, IsRefusedAfter, IsRefusedAtRest, FindsFirst}
 use Rattle.sqlite_disk.specs.declared.Files.{Files}
 use Rattle.sqlite_wal.specs.Files.{outcomes}
 use Rattle.sqlite_wal.proofs.LogLemmas.{SeenMayStay}
 use Rattle.sqlite_store.specs.Laws.{stays_at}
 use Rattle.sqlite.specs.Closing.{IsCopied}
-use Rattle.table_load.specs.Files.{FindsFirst}
-use Rattle.table_load.specs.HeldContent.{HoldsContent}
-use Rattle.table_load.specs.CutShort.{IsCutShort, IsMovedOn}
+use Rattle.table_load.specs.Moving.{HoldsContent}
+use Rattle.table_load.specs.OpeningSteps.{IsCutShort, IsMovedOn}
 use Rattle.table_load.proofs.lemmas.Opening.{desk_made, made_desk, old_rows_none}
+use Rattle.desk_sql.specs.Statements.{IsMisnumbered}
+use Rattle.table_load.specs.Opening.{IsNoDesk}
+use Rattle.table_load.specs.Opening.{HasOldRows}
+
+-- what a start does not take for the schema's tables as they are
+abbrev pub IsNotTakenAsIs : Database → Type 0
+IsNotTakenAsIs db = ((made : TablesPresent) × IsPart made db)
+    ⊎ (IsMisnumbered db ⊎ (IsNoDesk db ⊎ HasOldRows db))
 
 -- the law `one_content`
 abbrev pub HaveOneContent : Type 0

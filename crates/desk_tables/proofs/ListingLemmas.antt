@@ -12,13 +12,11 @@ use Rattle.sqlite_keyed.proofs.ListLemmas.{IsPermutation-filter, filter_none}
 use Rattle.volume4d.specs.Volume.{Block}
 use Rattle.desk_rules.specs.declared.plan.PlanRow.{PlanRow}
 use Rattle.desk_sql.specs.Rows.{Tables, Lists, by_cells, is_of}
-use Rattle.desk_store.specs.World.{Filed, World, text_cmp, filed_cmp, is_by, has_id, rows_by, plans_of, stored_of}
+use Rattle.desk_store.specs.World.{Filed, World, text_cmp, filed_cmp, is_by, has_id, rows_by, plans_of, stored_of, is_own, IsId, IsValidVolume, IsContent}
 use Rattle.desk_store.proofs.lemmas.Order.{is_equal, all_weaker}
-use Rattle.desk_store.specs.OwnRows.{is_own}
 use Rattle.row_codec.specs.Tables.{id_text, row_of_plan, plan_rows, row_of_volume, volume_rows_from, area_rows, volume_rows, AreTables}
-use Rattle.desk_store.specs.Content.{IsId, IsValidVolume, IsContent}
 use Rattle.row_codec.specs.RowsRead.{IsVolumeAt, IsHead}
-use Rattle.desk_tables.specs.Lookups.{one_or_none, own_of}
+use Rattle.desk_tables.specs.Store.{one_or_none, own_of}
 use Rattle.row_codec.proofs.lemmas.Order.{ArePlans}
 use Rattle.desk_tables.proofs.FilterLemmas.{own_row, plans_filtered, volumes_filtered}
 use Rattle.row_codec.proofs.lemmas.Order.{filed_total, in_order, own_at, places_less}

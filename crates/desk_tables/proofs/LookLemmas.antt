@@ -12,9 +12,8 @@ use Rattle.desk_sql.specs.Schema.{blank_schema}
 use Rattle.table_load.specs.Files.{Finds}
 use Rattle.desk_tables.specs.Store.{Shown}
 use Rattle.table_load.specs.OpeningSteps.{IsAdopted}
-use Rattle.table_load.specs.HeldContent.{AreStatsOf}
-use Rattle.desk_tables.specs.Copying.{AreNotCopied, IsMadeIn, IsUnmadeOf}
-use Rattle.desk_tables.specs.Copying.{LooksIn}
+use Rattle.table_load.specs.Moving.{AreStatsOf}
+use Rattle.desk_tables.specs.Copying.{AreNotCopied, IsMadeIn, IsUnmadeOf, LooksIn}
 use Rattle.desk_tables.specs.declared.opening.files.CopyFault.{CopyFault}
 use Rattle.desk_tables.specs.declared.opening.files.CopyFault.TheVariants as copy
 use Rattle.table_load.specs.declared.looking.DbStats.{DbStats}

@@ -6,16 +6,14 @@ use Rattle.sqlite.specs.State.{HasCleanDisk}
 use Rattle.sqlite.specs.Held.{state}
 use Rattle.volume4d.specs.declared.slab.Slab.{Slab}
 use Rattle.volume4d.specs.declared.slab.Held.{Held as One}
-use Rattle.volume4d.specs.Point.{Point}
-use Rattle.volume4d.specs.Level.{greater}
+use Rattle.volume4d.specs.Volume.{Point}
+use Rattle.volume4d.specs.Slab.{greater, slab_has, slabs_have, top_held}
 use Rattle.volume4d.proofs.lemmas.Level.{greater_none, top_held-nil}
-use Rattle.volume4d.specs.Slab.{slab_has, slabs_have, top_held}
-use Rattle.desk_sql.specs.Frames.{OnlyReads}
+use Rattle.desk_sql.specs.Effects.{OnlyReads}
 use Rattle.desk_rules.specs.Conflict.{at_least}
-use Rattle.desk_store.specs.World.{World, held}
-use Rattle.desk_store.specs.Rivals.{AddsLevel, AreHeldByOthers, HaveLevel}
-use Rattle.live_index.specs.Regions.{HoldNothingBeside}
-use Rattle.table_load.specs.Standing.{Stands}
+use Rattle.desk_store.specs.World.{World, held, AddsLevel, AreHeldByOthers, HaveLevel}
+use Rattle.live_index.specs.Live.{HoldNothingBeside}
+use Rattle.table_load.specs.Opening.{Stands}
 use Rattle.desk_tables.specs.Store.{HeldWorld}
 use Rattle.desk_tables.proofs.HeldLemmas.{any_level}
 use Rattle.table_load.proofs.lemmas.Frame.{reads_itself, reads_then}

@@ -6,13 +6,10 @@ use Rattle.std.proofs.lemmas.List.Sorted.{IsPermutation-refl, IsPermutation-sym,
 use Rattle.sqlite_value.specs.Order.{Row}
 use Rattle.sqlite_keyed.proofs.ListLemmas.{IsPermutation-filter, IsPermutation-same, filter_all, none_from_any}
 use Rattle.desk_sql.specs.Rows.{Tables, is_of, is_not_of, left_without, plan_row}
-use Rattle.desk_changes.specs.Batches.{PlanPut, PutsPlan}
-use Rattle.desk_store.specs.World.{Filed, World}
-use Rattle.desk_store.specs.OwnRows.{is_own}
-use Rattle.row_codec.specs.PlanRows.{filed_put}
-use Rattle.row_codec.specs.Tables.{id_text, row_of_plan, plan_rows, area_rows, volume_rows, area_covers, cover_rows, ArePlanSpanRows, AreSpanRows, AreTables}
-use Rattle.desk_store.specs.Content.{IsId, IsPlan, IsContent}
-use Rattle.desk_tables.specs.TableChanges.{PutsRows}
+use Rattle.desk_changes.specs.RowChanges.{PlanPut, PutsPlan}
+use Rattle.desk_store.specs.World.{Filed, World, is_own, IsId, IsPlan, IsContent}
+use Rattle.row_codec.specs.Tables.{filed_put, id_text, row_of_plan, plan_rows, area_rows, volume_rows, area_covers, cover_rows, ArePlanSpanRows, AreSpanRows, AreTables}
+use Rattle.desk_tables.specs.Store.{PutsRows}
 use Rattle.row_codec.proofs.lemmas.Order.{after_key}
 use Rattle.row_codec.proofs.lemmas.Order.{ArePlans}
 use Rattle.desk_tables.proofs.FilterLemmas.{own_row, other_row, volumes_filtered, covers_filtered, plan_spans_filtered}

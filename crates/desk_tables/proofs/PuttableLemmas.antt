@@ -10,25 +10,22 @@ use Rattle.sqlite_value.specs.declared.value.Value.TheVariants.{Text}
 use Rattle.sqlite_value.specs.Order.{Row}
 use Rattle.sqlite_value.proofs.OrderLemmas.{value_cmp_total, value_cmp-Text}
 use Rattle.sqlite.specs.Effect.{Database}
-use Rattle.s2_cover.specs.CanonicalList.{canonical_list}
-use Rattle.volume4d.specs.FootprintBytes.{HasValidParts}
+use Rattle.s2_cover.specs.Covers.{canonical_list}
+use Rattle.volume4d.specs.Footprint.{HasValidParts}
 use Rattle.volume4d.specs.VolumeLimits.{max_cover}
-use Rattle.volume4d.specs.Shape.{Shape, is_footprint, shape_positions}
-use Rattle.volume4d.specs.Volume.{Block}
+use Rattle.volume4d.specs.Volume.{Shape, is_footprint, shape_positions, Block}
 use Rattle.desk_rules.specs.declared.plan.PlanRow.{PlanRow}
-use Rattle.desk_rules.specs.Name.{is_operator_name}
+use Rattle.desk_rules.specs.Limits.{is_operator_name}
 use Rattle.desk_sql.specs.Rows as sql
 use Rattle.desk_sql.specs.Rows.{is_of, tables_of}
 use Rattle.desk_sql.specs.Changing.{HasKey, IsShort, has_same_key}
-use Rattle.desk_changes.specs.Putting.{AreOfPlan, AreShort, HasRoomFor, IsPuttable}
-use Rattle.desk_store.specs.Changes.{filed_by}
-use Rattle.desk_store.specs.StoreChange.{IsFitting}
+use Rattle.desk_changes.specs.RowChanges.{AreOfPlan, AreShort, HasRoomFor, IsPuttable}
+use Rattle.desk_store.specs.Changes.{filed_by, IsFitting}
 use Rattle.desk_store.specs.declared.change.Change.TheVariants.{Put}
-use Rattle.desk_store.specs.World.{Filed, Listed, World, ceiling_of, text_cmp}
+use Rattle.desk_store.specs.World.{Filed, Listed, World, ceiling_of, text_cmp, IsPlan}
 use Rattle.desk_store.proofs.lemmas.Order.{all_weaker}
 use Rattle.row_codec.specs.Tables.{id_text, row_of_operator, area_rows, area_covers, volume_rows_from, ArePlanSpanRows, AreTables}
-use Rattle.desk_store.specs.Content.{IsPlan}
-use Rattle.desk_tables.specs.Causes.{HasRoomForPlan}
+use Rattle.desk_tables.specs.Store.{HasRoomForPlan}
 use Rattle.table_load.proofs.lemmas.NewRow.{name_short}
 use Rattle.row_codec.proofs.lemmas.Order.{turned}
 use Rattle.table_load.proofs.lemmas.KeyOrder.{area_up, plan_up}

@@ -10,11 +10,10 @@ use Rattle.sqlite_value.proofs.OrderLemmas.{value_cmp-Text}
 use Rattle.sqlite_keyed.proofs.ListLemmas.{IsPermutation-filter, IsPermutation-same, filter_all, none_from_any}
 use Rattle.desk_sql.specs.Rows as sql
 use Rattle.desk_sql.specs.Rows.{Tables, with_row, PutsOperator, ClosesPlan}
-use Rattle.desk_store.specs.World.{Listed, World, text_cmp, listed_cmp}
+use Rattle.desk_store.specs.World.{Listed, World, text_cmp, listed_cmp, IsContent}
 use Rattle.desk_store.proofs.lemmas.Order.{is_equal, all_weaker}
 use Rattle.row_codec.specs.Tables.{row_of_operator, operator_rows, AreTables}
-use Rattle.desk_store.specs.Content.{IsContent}
-use Rattle.desk_tables.specs.TableChanges.{EnrolsRows}
+use Rattle.desk_tables.specs.Store.{EnrolsRows}
 use Rattle.row_codec.proofs.lemmas.Order.{turned}
 use Rattle.desk_tables.proofs.ChangeLemmas.{named_otherwise, front, operators_filtered}
 

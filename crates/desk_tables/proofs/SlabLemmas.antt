@@ -5,16 +5,15 @@ use Rattle.std.proofs.lemmas.List.Elements.{recursion_from_All, All-from_recursi
 use Rattle.std.proofs.lemmas.List.Sorted.{All-permutation}
 use Rattle.sqlite_value.specs.Order.{Row}
 use Rattle.s2_cover.specs.declared.spans.Span.{Span}
-use Rattle.s2_cover.specs.Ranges.{IsSpan}
+use Rattle.s2_cover.specs.Covers.{IsSpan}
 use Rattle.volume4d.specs.Volume.{Block}
 use Rattle.volume4d.specs.declared.slab.Held.{Held}
 use Rattle.desk_rules.specs.Limits.{max_priority}
-use Rattle.desk_rules.specs.Plan.{is_live}
+use Rattle.desk_rules.specs.Outcome.{is_live}
 use Rattle.desk_sql.specs.Rows.{Tables, columns_from_first}
-use Rattle.desk_store.specs.World.{Filed, World}
+use Rattle.desk_store.specs.World.{Filed, World, IsValidVolume, IsContent}
 use Rattle.desk_store.proofs.lemmas.Order.{all_append, all_filter}
-use Rattle.desk_store.specs.Content.{IsValidVolume, IsContent}
-use Rattle.row_codec.specs.RivalRows.{FitsColumns, IsHeldIn, IsNoHeld}
+use Rattle.row_codec.specs.RowsRead.{FitsColumns, IsHeldIn, IsNoHeld}
 use Rattle.row_codec.specs.Tables.{row_of_span, AreSpanRowsFrom, ArePlanSpanRows, AreSpanRows, AreTables}
 use Rattle.row_codec.proofs.lemmas.Order.{ArePlans}
 use Rattle.row_codec.proofs.lemmas.Unread.{window_fits}

@@ -7,28 +7,15 @@ use Rattle.sqlite_trees.specs.View.{doubt as doubt_of}
 use Rattle.sqlite_store.specs.declared.store.FileStore.{FileStore}
 use Rattle.sqlite_store.specs.FileStore.{view}
 use Rattle.sqlite_value.specs.Order.{Row}
-use Rattle.sqlite.specs.Effect.{Database}
-use Rattle.sqlite.specs.State.{HasCleanDisk}
-use Rattle.sqlite.specs.Held.{Held, IsNew, state}
-use Rattle.sqlite.specs.Files.{over_files, file_state, IsBlankAs}
-use Rattle.desk_sql.specs.Effects.{IsOpenIfClean}
-use Rattle.desk_sql.specs.Frames.{OnlyReads}
-use Rattle.desk_sql.specs.Schema.{blank_schema}
-use Rattle.desk_sql.specs.declared.opening.finding.TablesPresent.{TablesPresent}
-use Rattle.desk_sql.specs.Finding.{HasOthers}
-use Rattle.desk_sql.specs.Refusals.{HasDiskFailed, IsMisnumbered}
-use Rattle.desk_sql.specs.declared.opening.finding.TablesPresent.TheVariants.{Nothing}
-use Rattle.desk_sql.specs.Rows.{IsMadeTo, Tables}
+use Rattle.sqlite.specs.{Effect.Database, State.HasCleanDisk, Held.Held, Held.IsNew, Held.state, Files.over_files, Files.file_state, Files.IsBlankAs}
+use Rattle.desk_sql.specs.{Effects.IsOpenIfClean, Effects.OnlyReads, Effects.HasOthers, Schema.blank_schema, Statements.HasDiskFailed, Statements.IsMisnumbered, Rows.IsMadeTo, Rows.Tables}
+use Rattle.desk_sql.specs.declared.opening.finding.{TablesPresent.TablesPresent, TablesPresent.TheVariants.Nothing}
 use Rattle.desk_store.specs.World.{Filed, Listed, World}
 use Rattle.row_codec.specs.Tables.{row_of_operator, operator_rows, plan_rows, volume_rows, cover_rows, AreSpanRows}
-use Rattle.table_load.specs.Opening.{BlamesDisk}
-use Rattle.table_load.specs.Files.{FindsFirst, IsOfUnreached, IsUnread}
+use Rattle.table_load.specs.{Opening.BlamesDisk, Files.FindsFirst, Files.IsOfUnreached, Files.IsUnread, Moving.ShowsContent, Moving.ShowsNone}
 use Rattle.desk_tables.specs.declared.opening.files.CopyFault.{CopyFault}
 use Rattle.desk_tables.specs.declared.opening.files.CopyFault.TheVariants as copy
-use Rattle.table_load.specs.declared.path.NotOpened.{NotOpened}
-use Rattle.table_load.specs.declared.fault.OpenFault.{OpenFault}
-use Rattle.table_load.specs.declared.fault.OpenFault.TheVariants.{NotADesk, OldSchema, Store}
-use Rattle.table_load.specs.HeldContent.{ShowsContent, ShowsNone}
+use Rattle.table_load.specs.declared.{path.NotOpened.NotOpened, fault.OpenFault.OpenFault, fault.OpenFault.TheVariants.NotADesk, fault.OpenFault.TheVariants.OldSchema, fault.OpenFault.TheVariants.Store}
 
 -- a table of the schema, or another
 abbrev pub HasTables : Database → Type 0
@@ -46,7 +33,6 @@ pub record IsUnmade {S : Type 0} (g : Ghosts S) (old new : Held S) (e : OpenFaul
   pub doubt : doubt_of (state g old).is_clean ≤ doubt_of (state g new).is_clean
 
 -- ---- over files
-
 module _ {D : Type 0} {g : disk.Ghosts D} (image : Image) where
   -- a connection finds the database of the files, which has the rows of this content, and is left as it was
   pub record LooksIn (left : Held (FileStore D g)) (old : Bool) (w : World) : Type 0 where
@@ -120,7 +106,6 @@ AreNotCopied image other (copy.Unmade it left) =
     AreNotMade other it.fault it.connection × IsLeftRead image left.connection
 
 -- ---- a content that is written
-
 -- the rows of operators are added
 pub record AddsOperatorRows (ls : List Listed) (old new : Tables) : Type 0 where
   pub operators : IsPermutation (map row_of_operator ls ++ old.operators) new.operators
@@ -149,5 +134,4 @@ pub record AddsWorldRows (w : World) (old new : Tables) : Type 0 where
   pub old_spans : new.old_spans ≡ old.old_spans
   pub with_volumes : IsPermutation (volume_rows w.plans ++ old.volumes) new.volumes
   pub with_covers : IsPermutation (cover_rows w.plans ++ old.covers) new.covers
-  pub with_spans :
-      (rows : List Row) × AreSpanRows w.plans rows × IsPermutation (rows ++ old.spans) new.spans
+  pub with_spans : (rows : List Row) × AreSpanRows w.plans rows × IsPermutation (rows ++ old.spans) new.spans

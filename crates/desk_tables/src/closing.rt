@@ -3,7 +3,7 @@
 ghost use Rattle.std.specs.Prelude.{IfErr, IfOk};
 ghost use Rattle.sqlite_wal.specs.Reads.{AreClean};
 ghost use Rattle.sqlite.specs.Closing.{IsCopied};
-ghost use Rattle.desk_tables.specs.Closing.{IsLeftUnclosed};
+ghost use Rattle.desk_tables.specs.Store.{IsLeftUnclosed};
 
 use crate::store::SqliteStore;
 use sqlite::{Error, FileStore, Files};

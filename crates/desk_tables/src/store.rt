@@ -1,13 +1,11 @@
 //! A store of plans over tables in SQLite.
 
 ghost use Rattle.std.specs.Prelude.{◌≡◌, ◌≤◌, IfErr, IfOk};
-ghost use Rattle.sqlite.specs.Held.{state};
-ghost use Rattle.sqlite.specs.State.{HasCleanDisk};
-ghost use Rattle.desk_store.specs.StoreFaults.{HasRisen};
+ghost use Rattle.sqlite.specs.{Held.state, State.HasCleanDisk};
+ghost use Rattle.desk_store.specs.Changes.{HasRisen};
 ghost use Rattle.desk_sql.specs.Effects.{IsOpenIfClean};
-ghost use Rattle.table_load.specs.Standing.{Stands};
-ghost use Rattle.row_codec.specs.Known.{Knows};
-ghost use Rattle.table_load.specs.Leaving.{IsSettledAt};
+ghost use Rattle.table_load.specs.{Opening.Stands, Files.IsSettledAt};
+ghost use Rattle.row_codec.specs.SpanBounds.{Knows};
 
 use crate::laws::one_state;
 use crate::tables::DeskTables;
@@ -45,10 +43,9 @@ pub struct SqliteStore<S: Alter> {
 
 impl<S: Alter> Model for SqliteStore<S> {
     ghost use Rattle.desk_tables.specs.Store.{Shown, shown_code};
-    ghost use Rattle.row_codec.specs.Known.{Knows};
-    ghost use Rattle.desk_store.specs.Content.{IsContent};
-    ghost use Rattle.sqlite.specs.Held.{state};
-    ghost use Rattle.sqlite.specs.State.{HasCleanDisk};
+    ghost use Rattle.row_codec.specs.SpanBounds.{Knows};
+    ghost use Rattle.desk_store.specs.World.{IsContent};
+    ghost use Rattle.sqlite.specs.{Held.state, State.HasCleanDisk};
 
     ghost Value = { Shown S };
 
@@ -128,7 +125,7 @@ impl<S: Alter> SqliteStore<S> {
 impl<S: Alter> PlanStore for SqliteStore<S> {
     ghost use Rattle.sqlite_trees.specs.View.{doubt};
     ghost use Rattle.sqlite.specs.Held.{state};
-    ghost use Rattle.table_load.specs.Leaving.{MayLeave};
+    ghost use Rattle.table_load.specs.Files.{MayLeave};
 
     ghost content = { λ s. s.world };
 

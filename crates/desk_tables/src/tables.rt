@@ -1,8 +1,7 @@
 //! The tables of a store, with the state that their rows stand for.
 
 ghost use Rattle.std.specs.Prelude.{◌≡◌};
-ghost use Rattle.table_load.specs.Standing.{Stands};
-ghost use Rattle.table_load.specs.Leaving.{IsSettledAt};
+ghost use Rattle.table_load.specs.{Opening.Stands, Files.IsSettledAt};
 
 use crate::laws::one_state;
 use desk_sql::laws::committed_and_sound;
@@ -25,7 +24,7 @@ pub(crate) struct DeskTables<S: Alter> {
 }
 
 impl<S: Alter> Model for DeskTables<S> {
-    ghost use Rattle.table_load.specs.Standing.{Stands};
+    ghost use Rattle.table_load.specs.Opening.{Stands};
     ghost use Rattle.desk_tables.specs.Store.{HeldWorld, held_world_code};
 
     ghost Value = { HeldWorld S };

@@ -1,7 +1,7 @@
 //! Lines carried out over streams in memory: the exit status, and what is printed.
 
 ghost use Rattle.std.specs.Prelude.{◌≡◌, IfOk};
-ghost use Rattle.desk_program.specs.CarryingOut.{IsPortless};
+ghost use Rattle.desk_program.specs.Keeping.{IsPortless};
 
 use desk_cli::{Database, DeskArgs, EnrolArgs, Enrolment, Line, PlayArgs};
 use desk_program::with_desk;

@@ -1,13 +1,11 @@
 -- Requests that were answered so far.
 use Rattle.std.proofs.Common.{◌≡◌, ℕ, ℤ, ◌+◌, ◌<◌, ◌≤◌, List, [], ◌∷◌, ◌++◌, true, false, Option, Some, None, is_some, length, take, get_or, map, refl, sym, ap, subst, ◌∙◌, arith}
 use Rattle.std.proofs.lemmas.List.{take_more, take_all, take-map, map-append, length-append, length-map}
-use Rattle.desk_run.specs.DeskWorld.{DeskWorld}
-use Rattle.desk_wire.specs.AllAnswers.{Sent, answers_to, world_left, AreFirst, AreAll, AreCutShort, AreBroken}
+use Rattle.desk_run.specs.Verdicts.{DeskWorld}
+use Rattle.desk_wire.specs.Bytes.{Sent, answers_to, world_left, AreFirst, AreAll, AreCutShort, AreBroken, text_for, world_after, IsDone, IsServerError, IsAnsweredSo}
 use Rattle.desk_wire.proofs.BytesLemmas.{asked_read}
-use Rattle.desk_wire.specs.Bytes.{text_for, world_after, IsDone, IsServerError, IsAnsweredSo}
 use Rattle.desk_rules.specs.declared.call.Asked.{Asked}
-use Rattle.request_parser.specs.Messages.{MessageParts, message_in}
-use Rattle.request_parser.specs.Readings.{Reading, or_met}
+use Rattle.request_parser.specs.Messages.{MessageParts, message_in, Reading, or_met}
 use Rattle.request_parser.specs.Requests.{asked, asked_by}
 use Rattle.desk_wire.specs.declared.response.ServerError.{ServerError}
 

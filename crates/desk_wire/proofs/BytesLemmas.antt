@@ -2,13 +2,11 @@
 use Rattle.std.proofs.Common.{◌≡◌, ℤ, false, List, ℕ, Result, Ok, Err, IfOk, OnOk, refl, sym, ap, ◌∙◌}
 use Rattle.desk_rules.specs.declared.call.Asked.{Asked}
 use Rattle.desk_run.specs.declared.pending.Pending.{Pending}
-use Rattle.desk_run.specs.DeskWorld.{DeskWorld}
-use Rattle.desk_run.specs.Verdicts.{Reported}
+use Rattle.desk_run.specs.Verdicts.{DeskWorld, Reported}
 use Rattle.desk_run.specs.Calls.{HasNoReply, IsPending, reply_in, world_committed}
-use Rattle.desk_rules.specs.Replies.{said_in}
+use Rattle.desk_rules.specs.Outcome.{said_in}
 use Rattle.desk_writing.specs.ReplyText.{reply_text}
-use Rattle.request_parser.specs.Messages.{MessageParts, message_in}
-use Rattle.request_parser.specs.Readings.{Reading, or_met}
+use Rattle.request_parser.specs.Messages.{MessageParts, message_in, Reading, or_met}
 use Rattle.request_parser.specs.Requests.{asked, asked_by}
 use Rattle.desk_wire.specs.Bytes.{IsDone, makes_change_for, status, status_for, text, world_after}
 

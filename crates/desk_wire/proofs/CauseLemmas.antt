@@ -3,16 +3,14 @@ use Rattle.std.proofs.Common.{◌≡◌, ◌≢◌, ◌≤◌, ℕ, List, [], �
 use Rattle.std.proofs.lemmas.List.{map-append}
 use Rattle.std.proofs.KnownBytes.{Appends-nil, Appends-trans}
 use Rattle.std.specs.Io.KnownBytes.{Appends}
-use Rattle.desk_store.specs.StoreFaults.{HasRisen}
-use Rattle.desk_run.specs.DeskWorld.{DeskWorld}
+use Rattle.desk_store.specs.Changes.{HasRisen}
+use Rattle.desk_run.specs.Verdicts.{DeskWorld}
 use Rattle.desk_run.proofs.lemmas.Crash.{risen_since}
 use Rattle.io_ends.specs.declared.serving.Served.{Served}
 use Rattle.io_ends.specs.declared.serving.Served.TheVariants.{Answered}
 use Rattle.desk_wire.specs.declared.response.ServerError.{ServerError}
 use Rattle.desk_wire.specs.declared.response.ServerError.TheVariants.{OutOfMemory, Store}
-use Rattle.desk_wire.specs.Bytes.{IsServerError}
-use Rattle.desk_wire.specs.FailureCauses.{AppendsLast, HasFailed, HasStoreCause, HasStatus500, IsLastAnswer}
-use Rattle.desk_wire.specs.RefusalTexts.{server_error_text}
+use Rattle.desk_wire.specs.Bytes.{IsServerError, AppendsLast, HasFailed, HasStoreCause, HasStatus500, IsLastAnswer, server_error_text}
 
 cause_of : (why : ServerError) (old new : ℕ) → (Some why ≡ Some Store → HasRisen old new)
     → HasStoreCause why old new

@@ -7,9 +7,8 @@ use Rattle.std.proofs.Math.Seq.{take-append_seam, drop-append_seam}
 use Rattle.std.proofs.KnownBytes.{Consumes-trans}
 use Rattle.std.specs.Option.{option_or}
 use Rattle.std.specs.Io.KnownBytes.{Consumes, IsAtEnd}
-use Rattle.request_parser.specs.Framing.{ends_head, head_len, least}
-use Rattle.request_parser.specs.Messages.{FrontParts, front_in, message_in}
-use Rattle.request_parser.specs.Readings.{Reading, guard, or_met}
+use Rattle.request_parser.specs.Heads.{ends_head, head_len, least}
+use Rattle.request_parser.specs.Messages.{FrontParts, front_in, message_in, Reading, guard, or_met}
 use Rattle.request_parser.specs.WireLimits.{head_room}
 use Rattle.request_parser.specs.declared.wire_fault.WireFault.TheVariants.{BadHead}
 use Rattle.desk_wire.specs.Streams.{IsCut, IsFront, IsRequest, front_parsed, front_within, request_len, size_or_zero, whole_len, with_body}

@@ -4,17 +4,14 @@ use Rattle.std.proofs.Common.{List, [], ◌∷◌, length, take, ◌∙◌, arit
 use Rattle.std.proofs.lemmas.List.{take_all, length-take-le}
 use Rattle.std.proofs.Math.Seq.{take-append_seam, take-length}
 use Rattle.std.specs.List.{slice_get}
-use Rattle.desk_run.specs.DeskWorld.{DeskWorld, side}
+use Rattle.desk_run.specs.Verdicts.{DeskWorld, side}
 use Rattle.request_parser.specs.Requests.{asked}
-use Rattle.desk_run.specs.Sides.{OwnAlike, is_from}
+use Rattle.desk_run.specs.Calls.{OwnAlike, is_from}
 use Rattle.desk_wire.specs.declared.batch.AnswersEnd.{AnswersEnd}
 use Rattle.desk_wire.specs.declared.batch.AnswersEnd.TheVariants.{All, Broken, NoMemory}
-use Rattle.desk_wire.specs.RefusalTexts.{server_error_text}
-use Rattle.desk_wire.specs.Bytes.{text_for}
-use Rattle.desk_wire.specs.AllAnswers.{Sent, answers_to, world_left, AreFirst, AreBroken, AreAnswers}
+use Rattle.desk_wire.specs.Bytes.{server_error_text, text_for, Sent, answers_to, world_left, AreFirst, AreBroken, AreAnswers}
 use Rattle.desk_wire.specs.Headline.{sender, LookAlike, world_at}
-use Rattle.desk_wire.specs.Given.{answered}
-use Rattle.desk_wire.specs.TwoRuns.{requests_of}
+use Rattle.desk_wire.specs.Given.{answered, requests_of}
 use Rattle.desk_wire.proofs.HeadlineLemmas.{one_each, answer_at, same_text, quiet}
 
 abbrev GivenFirst : AnswersEnd → DeskWorld → List Sent → List (List ℕ) → DeskWorld → Type 0

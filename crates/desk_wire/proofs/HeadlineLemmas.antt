@@ -5,21 +5,18 @@ use Rattle.std.specs.List.{AllZip, slice_get}
 use Rattle.std.specs.Ordering.{is_eq}
 use Rattle.desk_rules.specs.declared.call.Asked.{Asked}
 use Rattle.desk_store.specs.World.{text_cmp}
-use Rattle.desk_run.specs.DeskWorld.{DeskWorld, Side, side, held_in}
-use Rattle.request_parser.specs.Readings.{Reading}
+use Rattle.desk_run.specs.Verdicts.{DeskWorld, Side, side, held_in, side_left, step}
+use Rattle.request_parser.specs.Messages.{Reading}
 use Rattle.request_parser.specs.Requests.{asked}
-use Rattle.desk_run.specs.Sides.{OwnAlike, HoldAlike, is_from, beside, along}
+use Rattle.desk_run.specs.Calls.{OwnAlike, HoldAlike, is_from, beside, along}
 use Rattle.desk_run.proofs.lemmas.Side.{Levels, IsSeenBy, IsKeptBy, after_all, everywhere}
 use Rattle.desk_run.proofs.lemmas.Side.{same_found, same_last, quiet_is}
 use Rattle.desk_run.proofs.lemmas.Step.{own_stays, others_stay}
 use Rattle.desk_run.proofs.lemmas.TwoRun.{report, keep, seen, kept, same_name, reported_alike}
-use Rattle.desk_run.specs.Verdicts.{side_left, step}
 use Rattle.desk_wire.specs.declared.refusal.Refusal.TheVariants.{Fault}
-use Rattle.desk_wire.specs.Bytes.{text, text_for, world_after}
-use Rattle.desk_wire.specs.RefusalTexts.{refusal_text}
-use Rattle.desk_wire.specs.AllAnswers.{Sent, answers_to, world_left}
+use Rattle.desk_wire.specs.Bytes.{text, text_for, world_after, refusal_text, Sent, answers_to, world_left}
 use Rattle.desk_wire.specs.Headline.{operator_in, sender, LookAlike, OwnsAlike, world_at, Headline}
-use Rattle.desk_wire.specs.TwoRuns.{left, requests_of, met_by, IsSameFor}
+use Rattle.desk_wire.specs.Given.{left, requests_of, met_by, IsSameFor}
 
 -- the answer to what is asked, and what is left to its operator, by what the operator owns and what others
 -- hold

@@ -4,17 +4,15 @@ use Rattle.std.proofs.Common.{option_map, false, is_some, length, map, take, get
 use Rattle.std.proofs.lemmas.List.{map-append}
 use Rattle.std.proofs.lemmas.List.Elements.{recursion_from_All}
 use Rattle.std.specs.Result.{IsErrAnd}
-use Rattle.desk_store.specs.World.{World}
-use Rattle.desk_store.specs.Crashes.{LeavesNoMore, LeavesOldOr, LeavesOnly}
-use Rattle.request_parser.specs.Messages.{MessageParts, message_in}
-use Rattle.request_parser.specs.Readings.{Reading, or_met}
+use Rattle.desk_store.specs.World.{World, LeavesNoMore, LeavesOldOr, LeavesOnly}
+use Rattle.request_parser.specs.Messages.{MessageParts, message_in, Reading, or_met}
 use Rattle.request_parser.specs.Requests.{asked, asked_by}
 use Rattle.desk_rules.specs.declared.call.Asked.{Asked}
 use Rattle.desk_store.specs.declared.store.PlanStore.{Ghosts}
-use Rattle.desk_store.specs.StoreFaults.{IsHonest}
-use Rattle.desk_run.specs.DeskFrames.{Leaves}
-use Rattle.desk_run.specs.DeskWorld.{DeskWorld, Parts, world_of}
-use Rattle.desk_wire.specs.Failing.{desk_fault}
+use Rattle.desk_store.specs.Changes.{IsHonest}
+use Rattle.desk_run.specs.Calls.{Leaves}
+use Rattle.desk_run.specs.Verdicts.{DeskWorld, Parts, world_of}
+use Rattle.desk_wire.specs.Bytes.{desk_fault, Sent, answers_to, world_left, IsServerError, status_or_500, world_after}
 use Rattle.io_ends.specs.declared.playing.PlayEnd.{PlayEnd}
 use Rattle.io_ends.specs.declared.playing.PlayEnd.TheVariants.{End, Unframed, Broken, Limit, Fault}
 use Rattle.io_ends.specs.declared.serving.Served.{Served}
@@ -23,14 +21,9 @@ use Rattle.io_ends.specs.declared.serving.ServeFault.{ServeFault}
 use Rattle.io_ends.specs.declared.serving.ServeFault.TheVariants.{Read, Write, CutShort, OutOfMemory}
 use Rattle.io_ends.specs.declared.writing.PartialWrite.{PartialWrite}
 use Rattle.desk_wire.specs.declared.response.ServerError.{ServerError}
-use Rattle.desk_wire.specs.AllAnswers.{Sent, answers_to, world_left}
-use Rattle.desk_wire.specs.Bytes.{IsServerError, status_or_500, world_after}
-use Rattle.desk_wire.specs.Given.{IsNextIn, answered, reported_in_play}
-use Rattle.desk_wire.specs.RequestsKept.{FindsBy, IsCertain, IsFoundInRequests, IsFoundInStream, IsFoundNow, IsKept, IsLeftBy, IsOldOrNext, IsServedKept}
-use Rattle.desk_wire.specs.Passage.{Passage, passed}
+use Rattle.desk_wire.specs.Given.{IsNextIn, answered, reported_in_play, FindsBy, IsCertain, IsFoundInRequests, IsFoundInStream, IsFoundNow, IsKept, IsLeftBy, IsOldOrNext, IsServedKept}
+use Rattle.desk_wire.specs.Streams.{Passage, passed, requests_in, IsTaken}
 use Rattle.desk_wire.specs.Playing.{ArePlayed, EndsRunBy, IsWhole, at_moment}
-use Rattle.desk_wire.specs.Streams.{requests_in}
-use Rattle.desk_wire.specs.OneRequest.{IsTaken}
 use Rattle.desk_wire.proofs.AllLemmas.{HaveAnswers, left_more, take_map}
 use Rattle.desk_wire.proofs.BytesLemmas.{left_read}
 use Rattle.desk_wire.proofs.StreamGivenLemmas.{given_broken, given_first, given_off, given_unframed, is_next}

@@ -1,11 +1,10 @@
 -- What answering a request leaves, by what its calls left.
 use Rattle.std.proofs.Common.{◌≡◌, ◌≢◌, ℤ, Some, Result, Ok, Err, IfOk, IfErr, arith}
 use Rattle.desk_rules.specs.declared.call.Asked.{Asked}
-use Rattle.request_parser.specs.Readings.{Reading}
-use Rattle.desk_run.specs.DeskWorld.{DeskWorld}
+use Rattle.request_parser.specs.Messages.{Reading}
+use Rattle.desk_run.specs.Verdicts.{DeskWorld}
 use Rattle.desk_run.specs.declared.fault.DeskFault.TheVariants as desk
-use Rattle.desk_wire.specs.Bytes.{IsDone, IsMadeAnswer, makes_change_for, status_for}
-use Rattle.desk_wire.specs.Failing.{failure_of}
+use Rattle.desk_wire.specs.Bytes.{IsDone, IsMadeAnswer, makes_change_for, status_for, failure_of}
 use Rattle.desk_wire.specs.declared.answering.Response.{Response}
 use Rattle.desk_wire.specs.declared.response.ServerError.{ServerError}
 use Rattle.desk_wire.specs.declared.response.ServerError.TheVariants.{OutOfMemory, Store}

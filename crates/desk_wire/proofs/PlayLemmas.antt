@@ -8,15 +8,13 @@ use Rattle.std.proofs.lemmas.List.Folds.{concat-append}
 use Rattle.std.specs.List.{concat}
 use Rattle.std.specs.Io.KnownBytes.{Appends, Consumes}
 use Rattle.request_parser.specs.Requests.{asked}
-use Rattle.request_parser.specs.Readings.{Reading}
+use Rattle.request_parser.specs.Messages.{Reading}
 use Rattle.desk_rules.specs.declared.call.Asked.{Asked}
-use Rattle.desk_run.specs.DeskWorld.{DeskWorld}
+use Rattle.desk_run.specs.Verdicts.{DeskWorld}
 use Rattle.desk_wire.specs.declared.response.ServerError.{ServerError}
-use Rattle.desk_wire.specs.AllAnswers.{Sent, answers_to, world_left}
-use Rattle.desk_wire.specs.Bytes.{IsAnsweredSo, IsDone, IsServerError, status_or_500, text_for, world_after}
-use Rattle.desk_wire.specs.Passage.{passed}
+use Rattle.desk_wire.specs.Bytes.{Sent, answers_to, world_left, IsAnsweredSo, IsDone, IsServerError, status_or_500, text_for, world_after}
+use Rattle.desk_wire.specs.Streams.{passed, IsServed}
 use Rattle.desk_wire.specs.Playing.{ArePlayed, IsBroken, IsWhole, at_moment}
-use Rattle.desk_wire.specs.OneRequest.{IsServed}
 use Rattle.desk_wire.proofs.AllLemmas.{reported_more, left_more}
 
 -- an answer with another status is what is asked

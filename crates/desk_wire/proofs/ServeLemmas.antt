@@ -3,12 +3,11 @@ use Rattle.std.proofs.Common.{◌≡◌, ◌<◌, ℕ, ℤ, Bool, List, ◌++◌
 use Rattle.std.proofs.KnownBytes.{Consumes-trans, Keeps-refl}
 use Rattle.std.specs.Io.KnownBytes.{Consumes}
 use Rattle.std.specs.Result.{IsErrAnd, is_ok}
-use Rattle.request_parser.specs.Messages.{FrontParts, MessageParts, message_in, message_read}
-use Rattle.request_parser.specs.Readings.{Reading, or_met}
+use Rattle.request_parser.specs.Messages.{FrontParts, MessageParts, message_in, message_read, Reading, or_met}
 use Rattle.request_parser.specs.Requests.{asked, asked_by}
 use Rattle.request_parser.specs.declared.message.Message.{Message}
 use Rattle.request_parser.specs.declared.wire_fault.WireFault.{WireFault}
-use Rattle.desk_run.specs.DeskWorld.{DeskWorld}
+use Rattle.desk_run.specs.Verdicts.{DeskWorld}
 use Rattle.io_ends.specs.declared.serving.Served.{Served}
 use Rattle.io_ends.specs.declared.serving.Served.TheVariants.{Answered}
 use Rattle.io_ends.specs.declared.serving.ServeFault.{ServeFault}
@@ -17,9 +16,7 @@ use Rattle.io_ends.specs.declared.writing.PartialWrite.{PartialWrite}
 use Rattle.io_ends.specs.Writing.{BreaksOff}
 use Rattle.desk_wire.specs.declared.response.ServerError.{ServerError}
 use Rattle.desk_wire.specs.Bytes.{IsAnsweredSo, IsServerError, status_or_500}
-use Rattle.desk_wire.specs.Passage.{passed}
-use Rattle.desk_wire.specs.OneRequest.{HasServed, IsReplied, IsServed, IsTaken, IsUntouched, Stops}
-use Rattle.desk_wire.specs.Streams.{IsCut, IsFront, front_parsed, is_framed, size_or_zero, with_body}
+use Rattle.desk_wire.specs.Streams.{passed, HasServed, IsReplied, IsServed, IsTaken, IsUntouched, Stops, IsCut, IsFront, front_parsed, is_framed, size_or_zero, with_body}
 use Rattle.desk_wire.proofs.BytesLemmas.{asked_read}
 use Rattle.desk_wire.proofs.FrontLemmas.{is_request, message_is}
 

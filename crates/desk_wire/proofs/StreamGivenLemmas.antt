@@ -10,23 +10,19 @@ use Rattle.std.specs.Prelude.{IfSome, if◌then◌else◌}
 use Rattle.std.specs.List.{AllByRecursion, concat, slice_get}
 use Rattle.std.specs.Option.{option_map}
 use Rattle.std.specs.Io.KnownBytes.{Appends, Consumes}
-use Rattle.desk_run.specs.DeskWorld.{DeskWorld, side}
+use Rattle.desk_run.specs.Verdicts.{DeskWorld, side}
 use Rattle.request_parser.specs.Requests.{asked}
-use Rattle.desk_run.specs.Sides.{OwnAlike}
+use Rattle.desk_run.specs.Calls.{OwnAlike}
 use Rattle.io_ends.specs.declared.playing.PlayEnd.{PlayEnd}
 use Rattle.io_ends.specs.declared.playing.PlayEnd.TheVariants.{End, Unframed, Broken, Limit, Fault}
 use Rattle.io_ends.specs.declared.serving.ServeFault.TheVariants.{Read, Write, CutShort, OutOfMemory}
 use Rattle.io_ends.specs.declared.writing.PartialWrite.{PartialWrite}
 use Rattle.desk_wire.specs.declared.response.ServerError.{ServerError}
-use Rattle.desk_wire.specs.AllAnswers.{answers_to, world_left}
-use Rattle.desk_wire.specs.Bytes.{IsAnsweredSo, IsDone, world_after}
-use Rattle.desk_wire.specs.Given.{AreGiven, IsNextIn, LeavesBy, FollowsBy, reported_in_play}
+use Rattle.desk_wire.specs.Bytes.{answers_to, world_left, IsAnsweredSo, IsDone, world_after}
+use Rattle.desk_wire.specs.Given.{AreGiven, IsNextIn, LeavesBy, FollowsBy, reported_in_play, SparesQuiet, requests_of}
 use Rattle.desk_wire.specs.Headline.{sender, LookAlike, world_at}
-use Rattle.desk_wire.specs.Passage.{Passage, passed}
+use Rattle.desk_wire.specs.Streams.{Passage, passed, IsBrokenOff, IsTaken, IsUntouched, IsRequest, is_framed, request_len, requests_in, with_next}
 use Rattle.desk_wire.specs.Playing.{ArePlayed, EndsRunBy, HasPlayed, IsBroken, IsUnframed, IsWhole, at_moment}
-use Rattle.desk_wire.specs.OneRequest.{IsBrokenOff, IsTaken, IsUntouched}
-use Rattle.desk_wire.specs.Streams.{IsRequest, is_framed, request_len, requests_in, with_next}
-use Rattle.desk_wire.specs.TwoRuns.{SparesQuiet, requests_of}
 use Rattle.desk_wire.proofs.AllLemmas.{left_more}
 use Rattle.desk_wire.proofs.FrontLemmas.{request_more}
 use Rattle.desk_wire.proofs.GivenLemmas.{quiet_take}

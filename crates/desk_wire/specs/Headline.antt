@@ -36,11 +36,9 @@
 use Rattle.std.specs.Prelude.{◌≡◌, ◌≢◌, ◌+◌, ℕ, List, Option, None, Some, Ok, Err, length, take, ⊤}
 use Rattle.std.specs.List.{slice_get}
 use Rattle.desk_rules.specs.declared.call.Asked.{Asked}
-use Rattle.desk_run.specs.DeskWorld.{DeskWorld}
-use Rattle.request_parser.specs.Readings.{Reading}
-use Rattle.request_parser.specs.Requests.{asked}
-use Rattle.desk_run.specs.Sides.{OwnAlike, HoldAlike}
-use Rattle.desk_wire.specs.AllAnswers.{Sent, answers_to, world_left}
+use Rattle.desk_run.specs.{Verdicts.DeskWorld, Calls.OwnAlike, Calls.HoldAlike}
+use Rattle.request_parser.specs.{Messages.Reading, Requests.asked}
+use Rattle.desk_wire.specs.Bytes.{Sent, answers_to, world_left}
 
 -- whom a request names, by what it asks: nobody if it has a fault
 abbrev pub operator_in : Reading Asked → Option (List ℕ)

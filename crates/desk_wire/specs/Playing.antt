@@ -1,16 +1,10 @@
 -- Playing: the result of serving the requests of a stream one after the other.
 use Rattle.std.specs.Prelude.{◌≡◌, ◌≢◌, ℕ, ℤ, ◌+◌, true, false, List, length, map, All, Option, Err}
-use Rattle.std.specs.List.{concat}
-use Rattle.std.specs.Io.KnownBytes.{Appends, Consumes, IsAtEnd}
-use Rattle.desk_run.specs.DeskWorld.{DeskWorld}
-use Rattle.io_ends.specs.declared.playing.PlayEnd.{PlayEnd}
-use Rattle.io_ends.specs.declared.playing.PlayEnd.TheVariants.{End, Unframed, Broken, Limit, Fault}
+use Rattle.std.specs.{List.concat, Io.KnownBytes.Appends, Io.KnownBytes.Consumes, Io.KnownBytes.IsAtEnd}
+use Rattle.desk_run.specs.Verdicts.{DeskWorld}
+use Rattle.io_ends.specs.declared.playing.{PlayEnd.PlayEnd, PlayEnd.TheVariants.End, PlayEnd.TheVariants.Unframed, PlayEnd.TheVariants.Broken, PlayEnd.TheVariants.Limit, PlayEnd.TheVariants.Fault}
 use Rattle.desk_wire.specs.declared.response.ServerError.{ServerError}
-use Rattle.desk_wire.specs.AllAnswers.{Sent, answers_to, world_left}
-use Rattle.desk_wire.specs.Bytes.{IsServerError}
-use Rattle.desk_wire.specs.Passage.{Passage, passed}
-use Rattle.desk_wire.specs.OneRequest.{HasServed, IsServed, IsTaken, IsUntouched}
-use Rattle.desk_wire.specs.Streams.{IsRequest, is_framed}
+use Rattle.desk_wire.specs.{Bytes.Sent, Bytes.answers_to, Bytes.world_left, Bytes.IsServerError, Streams.Passage, Streams.passed, Streams.HasServed, Streams.IsServed, Streams.IsTaken, Streams.IsUntouched, Streams.IsRequest, Streams.is_framed}
 
 -- the most requests that one run answers: this desk's own limit
 abbrev pub max_answered : ℕ
@@ -33,8 +27,7 @@ pub record ArePlayed (H : Type 0) (count : ℕ) (p : Passage) (w : DeskWorld) (m
   pub count_is : length requests ≡ count
   pub whole : All IsWhole requests
   pub taken : Consumes p.reads.before p.reads.after (concat requests)
-  pub written :
-      H → Appends p.writes.before p.writes.after (concat (answers_to w (at_moment moment requests)))
+  pub written : H → Appends p.writes.before p.writes.after (concat (answers_to w (at_moment moment requests)))
   pub left : H → after ≡ world_left w (at_moment moment requests)
 
 -- one more request was read, and its answer says that the desk failed
@@ -52,13 +45,11 @@ pub record IsUnframed (H : Type 0) (p : Passage) (w : DeskWorld) (moment : ℤ) 
   pub served : IsServed H p w moment after status false
   pub answered : status ≢ 500
 
--- what follows the first `count` requests, by why serving ended; `answered` is the number of all requests
--- that were answered
+-- what follows the first `count` requests, by why serving ended; `answered` counts all answered requests
 abbrev pub EndsRunBy : Type 0 → PlayEnd → ℕ → ℕ → Passage → DeskWorld → ℤ → DeskWorld → Type 0
 EndsRunBy H End count answered p w moment after =
     (answered ≡ count) × IsAtEnd p.reads.before × IsUntouched p.writes.before p.writes.after w after
-EndsRunBy H Unframed count answered p w moment after =
-    (answered ≡ count + 1) × IsUnframed H p w moment after
+EndsRunBy H Unframed count answered p w moment after = (answered ≡ count + 1) × IsUnframed H p w moment after
 EndsRunBy H Broken count answered p w moment after = (answered ≡ count + 1) × IsBroken p w after
 EndsRunBy H Limit count answered p w moment after = (answered ≡ count) × (count ≡ max_answered)
     × IsUntouched p.writes.before p.writes.after w after
@@ -67,8 +58,7 @@ EndsRunBy H (Fault fault) count answered p w moment after =
 
 -- the result of serving a stream from the world `w` to the world `after`: the first `count` requests are
 -- answered in their order, and then serving ends for the reason `ended`. `H` says that the store is honest;
--- `p` are the bytes that were read and written; `input`, `output` and `world` are those after these first
--- requests
+-- `p` are the bytes read and written; `input`, `output` and `world` are those after these first requests
 pub record HasPlayed (H : Type 0) (ended : PlayEnd) (answered : ℕ) (p : Passage) (w : DeskWorld)
     (moment : ℤ) (after : DeskWorld) : Type 0 where
   pub count : ℕ

@@ -1,19 +1,13 @@
 //! One request answered by a desk, from bytes to bytes.
 
 ghost use Rattle.std.specs.Prelude.{◌≡◌, ◌≢◌, false, IfErr, IfOk, OnOk, OnErr, Ok};
-ghost use Rattle.request_parser.specs.Messages.{message_read, message_shown};
-ghost use Rattle.request_parser.specs.Readings.{or_met};
-ghost use Rattle.request_parser.specs.Requests.{asked as asked_in, asked_by};
-ghost use Rattle.desk_store.specs.StoreFaults.{IsHonest};
-ghost use Rattle.desk_run.specs.DeskFrames.{Leaves};
-ghost use Rattle.desk_run.specs.DeskWorld.{world_of};
-ghost use Rattle.desk_run.specs.Calls.{CanCommit, has_change, reply_in, world_committed};
-ghost use Rattle.desk_rules.specs.Replies.{said_in};
+ghost use Rattle.request_parser.specs.{Messages.message_read, Messages.message_shown, Messages.or_met, Requests.asked as asked_in, Requests.asked_by};
+ghost use Rattle.desk_store.specs.Changes.{IsHonest};
+ghost use Rattle.desk_run.specs.{Calls.Leaves, Calls.CanCommit, Calls.has_change, Calls.reply_in, Calls.world_committed, Verdicts.world_of};
+ghost use Rattle.desk_rules.specs.Outcome.{said_in};
 ghost use Rattle.desk_writing.specs.ReplyText.{reply_text};
-ghost use Rattle.desk_wire.specs.Bytes.{IsAnswerReported, IsMadeAnswer, world_after};
-ghost use Rattle.desk_wire.specs.Failing.{failure_of, failure_reported};
-ghost use Rattle.desk_wire.specs.RefusalTexts.{refusal_status, refusal_text};
-ghost use Rattle.desk_wire.specs.OneRequest.{IsAnswered};
+ghost use Rattle.desk_wire.specs.Bytes.{IsAnswerReported, IsMadeAnswer, world_after, failure_of, failure_reported, refusal_status, refusal_text};
+ghost use Rattle.desk_wire.specs.Streams.{IsAnswered};
 
 use crate::refusal::Refusal;
 use crate::response::{Answer, ServerError};
@@ -211,7 +205,7 @@ fn answer_pending<S: PlanStore>(
 }
 
 // The answer to a request that is refused for the reason `refusal`. It fails only if memory runs out.
-#[tactic(auto, unfolding(crate::specs::RefusalTexts::refusal_text))]
+#[tactic(auto, unfolding(crate::specs::Bytes::refusal_text))]
 fn refuse(alloc: Global, refusal: Refusal) -> Result<Response, ServerError>
     ensures bytes { IfOk result (λ r. r.bytes.items ≡ refusal_text refusal) }
     ensures status { IfOk result (λ r. r.status ≡ refusal_status refusal) }

@@ -1,15 +1,9 @@
 //! Batches: a list of requests answered in order.
 
 ghost use Rattle.std.specs.Prelude.{◌≡◌, ◌≤◌, IfOk, OnErr, OnOk, map};
-ghost use Rattle.desk_store.specs.StoreFrames.{Remembers};
-ghost use Rattle.desk_store.specs.StoreFaults.{IsHonest};
-ghost use Rattle.desk_run.specs.DeskFrames.{FindsOnly};
-ghost use Rattle.desk_run.specs.DeskWorld.{world_of};
-ghost use Rattle.desk_wire.specs.AllAnswers.{AreAnswers, sent_in, texts_in};
-ghost use Rattle.desk_wire.specs.FailureCauses.{HaveCause};
-ghost use Rattle.desk_wire.specs.Given.{answered};
-ghost use Rattle.desk_wire.specs.RequestsKept.{IsFoundInRequests};
-ghost use Rattle.desk_wire.specs.TwoRuns.{SparesQuiet};
+ghost use Rattle.desk_store.specs.Changes.{Remembers, IsHonest};
+ghost use Rattle.desk_run.specs.{Calls.FindsOnly, Verdicts.world_of};
+ghost use Rattle.desk_wire.specs.{Bytes.AreAnswers, Bytes.sent_in, Bytes.texts_in, Bytes.HaveCause, Given.answered, Given.IsFoundInRequests, Given.SparesQuiet};
 
 use crate::answering::answer_request;
 use crate::response::Answer;

@@ -3,18 +3,11 @@
 ghost use Rattle.std.specs.Prelude.{◌≡◌, ◌++◌, ℕ, ℤ, List, Option, Some, length};
 ghost use Rattle.std.specs.List.{AllZip};
 ghost use Rattle.desk_store.specs.World.{World};
-ghost use Rattle.desk_run.specs.DeskWorld.{DeskWorld};
-ghost use Rattle.desk_run.specs.Sides.{HoldAlike, OwnAlike};
+ghost use Rattle.desk_run.specs.{Verdicts.DeskWorld, Calls.HoldAlike, Calls.OwnAlike};
 ghost use Rattle.io_ends.specs.declared.playing.PlayEnd.{PlayEnd};
 ghost use Rattle.request_parser.specs.Requests.{asked};
-ghost use Rattle.desk_wire.specs.Bytes.{world_after};
-ghost use Rattle.desk_wire.specs.AllAnswers.{Sent};
-ghost use Rattle.desk_wire.specs.GivenLaws.{AnswersGiven, StreamGiven};
-ghost use Rattle.desk_wire.specs.Headline.{Headline};
-ghost use Rattle.desk_wire.specs.RequestsKept.{IsFoundInStream, IsKept};
-ghost use Rattle.desk_wire.specs.Passage.{Passage};
-ghost use Rattle.desk_wire.specs.Streams.{IsRequest, request_len};
-ghost use Rattle.desk_wire.specs.TwoRuns.{IsSameFor, met_by, requests_of};
+ghost use Rattle.desk_wire.specs.{Bytes.world_after, Bytes.Sent, Headline.Headline, Streams.Passage, Streams.IsRequest, Streams.request_len};
+ghost use Rattle.desk_wire.specs.Given.{AnswersGiven, StreamGiven, IsFoundInStream, IsKept, IsSameFor, met_by, requests_of};
 
 /// For every list of requests, each answer, byte for byte, is decided by that request's bytes and
 /// moment, its operator's own plans and ceiling, and the greatest priority that other operators hold
@@ -37,13 +30,13 @@ pub fn two_runs()
 {}
 
 /// The two laws above, for the answers that a desk gave to a list of requests (by the clause of
-/// `answer_all`). `specs/GivenLaws.antt` says this part by part.
+/// `answer_all`). `specs/Given.antt` says this part by part.
 pub fn answers_given()
     ensures { AnswersGiven }
 {}
 
 /// The two laws above, for what a desk wrote for a stream of requests (by the clause of `play_all`), if its
-/// storage is intact. `specs/GivenLaws.antt` says this part by part.
+/// storage is intact. `specs/Given.antt` says this part by part.
 pub fn stream_given()
     ensures { StreamGiven }
 {}

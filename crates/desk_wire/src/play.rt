@@ -1,15 +1,9 @@
 //! Serving a whole stream: its requests are answered one after the other.
 
 ghost use Rattle.std.specs.Prelude.{◌≡◌, ◌≤◌, ◌==◌};
-ghost use Rattle.desk_store.specs.StoreFrames.{Remembers};
-ghost use Rattle.desk_store.specs.StoreFaults.{IsHonest};
-ghost use Rattle.desk_run.specs.DeskFrames.{FindsOnly};
-ghost use Rattle.desk_run.specs.DeskWorld.{world_of};
-ghost use Rattle.desk_wire.specs.FailureCauses.{AppendsLast, HasFailed};
-ghost use Rattle.desk_wire.specs.Given.{reported_in_play};
-ghost use Rattle.desk_wire.specs.RequestsKept.{IsKept};
-ghost use Rattle.desk_wire.specs.Passage.{passage};
-ghost use Rattle.desk_wire.specs.Playing.{HasPlayed};
+ghost use Rattle.desk_store.specs.Changes.{Remembers, IsHonest};
+ghost use Rattle.desk_run.specs.{Calls.FindsOnly, Verdicts.world_of};
+ghost use Rattle.desk_wire.specs.{Bytes.AppendsLast, Bytes.HasFailed, Given.reported_in_play, Given.IsKept, Streams.passage, Playing.HasPlayed};
 
 use crate::stream::serve_one;
 use desk_run::Desk;

@@ -1,7 +1,7 @@
 //! Errors of requests to which no rule of planning is applied.
 
 ghost use Rattle.std.specs.Prelude.{◌≡◌, option_map};
-ghost use Rattle.desk_wire.specs.RefusalTexts as spec;
+ghost use Rattle.desk_wire.specs.Bytes as spec;
 
 use http::StatusCode;
 use request_parser::WireFault;

@@ -1,7 +1,7 @@
 //! Answers with their status codes, and why a desk failed to answer.
 
 ghost use Rattle.std.specs.Prelude.{◌≡◌, ◌≤◌, IfOk, length};
-ghost use Rattle.desk_wire.specs.RefusalTexts as spec;
+ghost use Rattle.desk_wire.specs.Bytes as spec;
 ghost use Rattle.desk_wire.specs.declared.response.ServerError.TheVariants as error;
 
 use desk_writing::{out_of_memory_answer, store_answer};

@@ -1,21 +1,14 @@
 //! Connections: requests read from a stream, and their answers written to one. A function that reads fails
 //! with `Read` if a read fails, and with `OutOfMemory` if memory runs out.
 
-ghost use Rattle.std.specs.Prelude.{◌≡◌, ◌<◌, ◌+◌, ◌++◌, [], length, take, IfErr, IfOk};
-ghost use Rattle.std.specs.Prelude.{IfSome, None};
-ghost use Rattle.std.specs.Io.{ReadsAtMost};
-ghost use Rattle.std.specs.Result.{is_ok};
-ghost use Rattle.std.specs.Io.KnownBytes.{Appends, Consumes, IsAtEnd, ReadConsumes};
+ghost use Rattle.std.specs.Prelude.{◌≡◌, ◌<◌, ◌+◌, ◌++◌, [], length, take, IfErr, IfOk, IfSome, None};
+ghost use Rattle.std.specs.{Io.ReadsAtMost, Result.is_ok, Io.KnownBytes.Appends, Io.KnownBytes.Consumes, Io.KnownBytes.IsAtEnd, Io.KnownBytes.ReadConsumes};
 ghost use Rattle.request_parser.specs.Messages.{message_read};
-ghost use Rattle.desk_store.specs.StoreFrames.{Remembers};
-ghost use Rattle.desk_store.specs.StoreFaults.{IsHonest};
-ghost use Rattle.desk_run.specs.DeskWorld.{world_of};
+ghost use Rattle.desk_store.specs.Changes.{Remembers, IsHonest};
+ghost use Rattle.desk_run.specs.Verdicts.{world_of};
 ghost use Rattle.io_ends.specs.declared.serving.ServeFault.TheVariants as serve_fault;
-ghost use Rattle.desk_wire.specs.FailureCauses.{HasFailed, HasStatus500};
-ghost use Rattle.desk_wire.specs.RequestsKept.{IsServedKept};
-ghost use Rattle.desk_wire.specs.Passage.{passage};
-ghost use Rattle.desk_wire.specs.OneRequest.{HasServed, IsTaken, Stops};
-ghost use Rattle.desk_wire.specs.Streams.{IsCut, IsFront, byte_list, front_parsed, front_result, size_or_zero, with_body};
+ghost use Rattle.desk_wire.specs.{Bytes.HasFailed, Bytes.HasStatus500, Given.IsServedKept};
+ghost use Rattle.desk_wire.specs.Streams.{passage, HasServed, IsTaken, Stops, IsCut, IsFront, byte_list, front_parsed, front_result, size_or_zero, with_body};
 
 use crate::answering::answer_request;
 use desk_run::Desk;

@@ -4,14 +4,11 @@ use Rattle.serde_json.specs.Data.{Data, Members}
 use Rattle.serde_json.specs.Find.{is_float, of_integer}
 use Rattle.serde_json.specs.View.{items_of}
 use Rattle.serde_json.specs.Written.{has_float, items_have_float, members_have_float}
-use Rattle.volume4d.specs.Meeting.{Spot}
-use Rattle.volume4d.specs.Shape.{Shape, cells, rectangle}
-use Rattle.volume4d.specs.Volume.{Block}
-use Rattle.desk_rules.specs.Replies.{ReplyParts, ready, plans, plan, answered, cleared}
+use Rattle.volume4d.specs.Sweep.{Spot}
+use Rattle.volume4d.specs.Volume.{Shape, cells, rectangle, Block}
+use Rattle.desk_rules.specs.Outcome.{ReplyParts, ready, plans, plan, answered, cleared}
 use Rattle.desk_rules.specs.declared.reply.Shown.{Shown}
-use Rattle.desk_writing.specs.PlanBody.{conflict_data, outcome_members, with_conflict}
-use Rattle.desk_writing.specs.ReplyText.{reply_data}
-use Rattle.desk_writing.specs.ShownBody.{cell_data, row_members, shown_data, volume_data, with_footprint, volume_with}
+use Rattle.desk_writing.specs.ReplyText.{conflict_data, outcome_members, with_conflict, reply_data, cell_data, row_members, shown_data, volume_data, with_footprint, volume_with}
 
 of_integer-whole : (z : ℤ) → is_float (of_integer z) ≡ false
 of_integer-whole (pos n) = refl

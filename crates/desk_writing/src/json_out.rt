@@ -1,11 +1,8 @@
 //! The bodies of answers, as JSON. Each function fails only if memory runs out.
 ghost use Rattle.std.specs.Prelude.{◌≡◌, IfOk, codes};
-ghost use Rattle.serde_json.specs.Data.{object, member};
-ghost use Rattle.serde_json.specs.View.{view};
-ghost use Rattle.desk_rules.specs.Replies.{said_in};
-ghost use Rattle.desk_writing.specs.Answer.{error_data};
-ghost use Rattle.desk_writing.specs.PlanBody.{cleared_data, conflict_data, outcome_members, put_data, ready_data};
-ghost use Rattle.desk_writing.specs.ReplyText.{reply_data};
+ghost use Rattle.serde_json.specs.{Data.object, Data.member, View.view};
+ghost use Rattle.desk_rules.specs.Outcome.{said_in};
+ghost use Rattle.desk_writing.specs.ReplyText.{error_data, cleared_data, conflict_data, outcome_members, put_data, ready_data, reply_data};
 
 use crate::shown_out::{plans_value, shown_value};
 use crate::words::{notes_text, result_word, status_word};

@@ -1,9 +1,8 @@
 //! Plans as JSON, as List and Show return them. Each function fails only if memory runs out.
 
 ghost use Rattle.std.specs.Prelude.{◌≡◌, IfOk, codes};
-ghost use Rattle.serde_json.specs.Data.{object, member};
-ghost use Rattle.serde_json.specs.View.{view};
-ghost use Rattle.desk_writing.specs.ShownBody.{area_data, cells_data, plans_data, rectangle_data, row_members, shown_data, volume_data, volume_with};
+ghost use Rattle.serde_json.specs.{Data.object, Data.member, View.view};
+ghost use Rattle.desk_writing.specs.ReplyText.{area_data, cells_data, plans_data, rectangle_data, row_members, shown_data, volume_data, volume_with};
 
 use crate::json_out::conflict_value;
 use crate::words::{aircraft_word, status_word, usage_word};

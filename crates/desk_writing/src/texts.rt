@@ -1,10 +1,8 @@
 //! The bytes of answers: HTTP/1.1 responses. A function that can fail does so only if memory runs out.
 ghost use Rattle.std.specs.Prelude.{◌≡◌, ◌≤◌, IfOk, None, codes, false, length, option_map, string_bytes};
-ghost use Rattle.serde_json.specs.View.{view};
-ghost use Rattle.serde_json.specs.Written.{has_float};
-ghost use Rattle.desk_rules.specs.Replies.{said_in};
-ghost use Rattle.desk_writing.specs.Answer.{allow_line, answer_text, error_text, json_answer};
-ghost use Rattle.desk_writing.specs.ReplyText.{reply_text};
+ghost use Rattle.serde_json.specs.{View.view, Written.has_float};
+ghost use Rattle.desk_rules.specs.Outcome.{said_in};
+ghost use Rattle.desk_writing.specs.ReplyText.{allow_line, answer_text, error_text, json_answer, reply_text};
 
 use crate::json_out::{error_value, reply_value};
 use desk_rules::reply::Reply;
@@ -31,7 +29,7 @@ pub fn reply_answer(alloc: Global, reply: &Reply) -> Result<Vec<u8>, AllocError>
 /// # Errors
 ///
 /// `AllocError` if memory runs out.
-#[tactic(auto, unfolding(crate::specs::Answer::error_text))]
+#[tactic(auto, unfolding(crate::specs::ReplyText::error_text))]
 pub fn error_answer(
     alloc: Global,
     status: StatusCode,
@@ -67,7 +65,7 @@ pub fn store_answer() -> &'static [u8]
 
 // The response with this status, whose body is `value` as JSON without white space; `allow` is as in
 // `error_answer`. `value` has no floating-point number: how one is printed isn't specified.
-#[tactic(auto, unfolding(crate::specs::Answer::json_answer))]
+#[tactic(auto, unfolding(crate::specs::ReplyText::json_answer))]
 fn json_answer(
     alloc: Global,
     status: StatusCode,

@@ -1,7 +1,7 @@
 //! The words in answers: those of InterUSS flight_planning v1, and the desk's own notes.
 
 ghost use Rattle.std.specs.Prelude.{◌≡◌};
-ghost use Rattle.desk_writing.specs.PlanWords as words;
+ghost use Rattle.desk_writing.specs.ReplyText as words;
 
 use desk_rules::words::{Aircraft, Note, PlanResult, PlanStatus, Usage};
 

@@ -1,32 +1,58 @@
--- Access: what is found at the path of a file that can't be opened, and what is reported of it. In these
--- definitions `it` stands for the answers of the machine, and `made` says that the command makes a missing
--- file.
-use Rattle.std.specs.Prelude.{◌≡◌, ◌≢◌, ◌⊎◌, ⊤, ℕ, ◌==◌, Bool, true, false, if◌then◌else◌}
-use Rattle.std.specs.Prelude.{List, [], ◌∷◌, ◌++◌, codes}
-use Rattle.std.specs.Prelude.{bytes_eq, nat_eq, Option, None, Some, option_map, Result, Ok, Err, is_ok}
-use Rattle.std.specs.List.{starts_with}
-use Rattle.std.specs.declared.io.ErrorKind.{ErrorKind}
+-- What a machine answers about its files: what is found at a path, and what a command leaves.
+use Rattle.std.specs.Prelude.{◌≡◌, ◌↔◌, ℕ, Bool, IsTrue, List, Option, None, Some, Result, Ok, Err, ◌≢◌, ◌⊎◌, ⊤, ◌==◌, true, false, if◌then◌else◌, [], ◌∷◌, ◌++◌, codes, bytes_eq, nat_eq, option_map, is_ok, not}
+use Rattle.std.specs.declared.{io.ErrorKind.ErrorKind, fs.attrs.Metadata.Metadata}
+use Rattle.std.specs.{Fs.IsFile, Fs.file_type, Fs.metadata_len, List.starts_with}
 use Rattle.std.specs.declared.io.ErrorKind.TheVariants as kind
 use Rattle.sqlite_std_file.specs.declared.pair.OpenError.{OpenError}
 use Rattle.sqlite_std_file.specs.declared.pair.OpenError.TheVariants as opening
-use Rattle.host_files.specs.Answers.{Answers}
+use Rattle.host_files.specs.declared.{files.Found.Found, files.Identity.Identity, state.Denial.Denial, state.FileState.FileState, state.Missing.Missing, state.Start.Start, state.Place.Place, state.Next.Next}
 use Rattle.host_files.specs.Naming.{Failed, Follows, Steps, Tried}
-use Rattle.host_files.specs.declared.files.Found.{Found}
-use Rattle.host_files.specs.declared.state.FileState.{FileState}
 use Rattle.host_files.specs.declared.state.FileState.TheVariants as state
-use Rattle.host_files.specs.declared.state.Missing.{Missing}
 use Rattle.host_files.specs.declared.state.Missing.TheVariants as missing
-use Rattle.host_files.specs.declared.state.Denial.{Denial}
 use Rattle.host_files.specs.declared.state.Denial.TheVariants as denial
-use Rattle.host_files.specs.declared.state.Start.{Start}
 use Rattle.host_files.specs.declared.state.Start.TheVariants as start
-use Rattle.host_files.specs.declared.state.Place.{Place}
 use Rattle.host_files.specs.declared.state.Place.TheVariants as place
-use Rattle.host_files.specs.declared.state.Next.{Next}
 use Rattle.host_files.specs.declared.state.Next.TheVariants as next
 
--- ---- what the answers of the operating system say
+-- the answers, by the path that is asked about
+pub record Answers : Type 0 where
+  -- what it leads to, and what is there itself, which may be a link
+  pub found : List ℕ → Result Found ErrorKind
+  pub entry : List ℕ → Result Found ErrorKind
+  -- the path with all links resolved
+  pub real : List ℕ → Result (List ℕ) ErrorKind
+  -- the error of opening its file for reading, and the bytes of the open file, if they are known
+  pub unread : List ℕ → Option ErrorKind
+  pub bytes : List ℕ → Option (List ℕ)
+  -- the error of opening it for reading and writing, and why it can't be opened as SQLite does
+  pub unwritten : List ℕ → Option ErrorKind
+  pub unheld : List ℕ → Option Denial
+  -- how many of its pages have wrong checksums, if that can be found out
+  pub bad_checksums : List ℕ → Option ℕ
+  -- it lists its tables in an order that the desk doesn't read
+  pub in_other_order : List ℕ → Bool
+  -- recovery applies a commit of its WAL, or that can't be found out
+  pub recovered : List ℕ → Bool
 
+-- a result with the function applied to its value, if it is Ok
+abbrev pub by_ok : {A B E : Type 0} → (A → B) → Result A E → Result B E
+by_ok f (Ok it) = Ok (f it)
+by_ok f (Err error) = Err error
+
+-- the error of a result, if it is Err
+abbrev pub error_of : {A E : Type 0} → Result A E → Option E
+error_of (Ok it) = None
+error_of (Err error) = Some error
+
+-- what was found has the kind and the length that the operating system says
+pub record IsFoundAs (said : Metadata) (found : Found) : Type 0 where
+  pub is_file : IsTrue found.is_file ↔ IsFile (file_type said)
+  pub len : found.len ≡ metadata_len said
+
+-- ==== What is found at the path of a file that can't be opened, and what is reported of it
+-- Here `it` stands for the answers of the machine, and `made` says that the command makes a missing file.
+
+-- ---- what the answers of the operating system say
 -- why nothing can be reached at a path, by the kind of the error
 abbrev pub missing_by : ErrorKind → Missing
 missing_by kind.NotFound = missing.NoFile
@@ -34,8 +60,7 @@ missing_by kind.NotADirectory = missing.NoFolder
 missing_by kind.PermissionDenied = missing.NoRight
 missing_by _ = missing.Other
 
--- what is at a path: by whether it is a regular file and its length, and by the answer of the operating
--- system
+-- what is at a path: by whether it is a regular file and its length, and by the operating system's answer
 abbrev pub place_with : Bool → ℕ → Place
 place_with false len = place.NotRegular
 place_with true len = if len == 0 then place.Empty else place.Filled
@@ -153,7 +178,6 @@ MayAsk no_path made next.Access = made ≡ true
 MayAsk no_path made next.Start = no_path ≡ false
 
 -- ---- what is reported
-
 -- the text for a path at which nothing can be reached
 abbrev pub missing_text : Missing → List ℕ
 missing_text missing.NoFile = codes "no such file"
@@ -228,3 +252,42 @@ abbrev pub IsCauseBy : Bool → List ℕ → List ℕ → Steps → List ℕ →
 IsCauseBy true found path steps text =
     (Follows steps (Tried path ∷ []) × (text ≡ found)) ⊎ Follows steps (Failed ∷ [])
 IsCauseBy false found path steps text = (text ≡ found) × (steps.after ≡ steps.before)
+
+-- ==== What the answers of a machine, `it`, say of a file that a copy may have left, and of an open one
+-- it is certain that nothing is at a path
+abbrev pub is_unfound : Result Found ErrorKind → Bool
+is_unfound (Err kind.NotFound) = true
+is_unfound _ = false
+
+abbrev pub is_missing : Answers → List ℕ → Bool
+is_missing it path = is_unfound (it.entry path)
+
+-- two identities are those of the same file
+abbrev pub is_same : Identity → Identity → Bool
+is_same one other = if one.device == other.device then one.inode == other.inode else false
+
+-- a path leads to the file `held`, if one is
+abbrev pub is_found : Result Found ErrorKind → Option Identity → Bool
+is_found (Ok found) (Some held) = is_same found.identity held
+is_found (Ok found) None = false
+is_found (Err error) held = false
+
+abbrev pub is_at : Answers → List ℕ → Option Identity → Bool
+is_at it path held = is_found (it.found path) held
+
+-- what is at a path may be removed as left by a copy: nothing, or a regular file that is not the source
+abbrev pub is_left_by : Answers → List ℕ → Result Found ErrorKind → Bool
+is_left_by it source (Ok found) = if found.is_file then not (is_at it source (Some found.identity)) else false
+is_left_by it source (Err kind.NotFound) = true
+is_left_by it source (Err _) = false
+
+abbrev pub is_left : Answers → List ℕ → List ℕ → Bool
+is_left it source path = is_left_by it source (it.entry path)
+
+-- an empty regular file is at a path
+abbrev pub is_empty_by : Result Found ErrorKind → Bool
+is_empty_by (Ok found) = if found.is_file then found.len == 0 else false
+is_empty_by (Err error) = false
+
+abbrev pub is_empty : Answers → List ℕ → Bool
+is_empty it path = is_empty_by (it.entry path)

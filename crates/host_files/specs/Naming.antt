@@ -1,8 +1,17 @@
--- Naming: the steps by which a new file gets its name. Steps are those of the trait `Folder`.
+-- How a new file gets its name, and what is reported if it can't be made.
 use Rattle.std.specs.Prelude.{◌≡◌, ◌⊎◌, ⊤, ℕ, Bool, true, false, List, [], ◌∷◌, ◌++◌, All, codes, Option, None, Some, string_bytes}
-use Rattle.desk_wire.specs.Passage.{Course}
+use Rattle.std.specs.declared.io.ErrorKind.{ErrorKind}
+use Rattle.std.specs.declared.io.ErrorKind.TheVariants as kind
+use Rattle.std.specs.Io.KnownBytes.{Appends}
+use Rattle.io_ends.specs.Writing.{BreaksOff}
+use Rattle.io_ends.specs.declared.writing.{WriteError.WriteError, PartialWrite.PartialWrite}
+use Rattle.desk_wire.specs.Streams.{Course}
 use Rattle.desk_program.specs.Serving.{Grows}
-use Rattle.host_files.specs.declared.naming.NewFile.{NewFile}
+use Rattle.host_files.specs.declared.{naming.NewFile.NewFile, pairs.ScratchFault.ScratchFault}
+use Rattle.host_files.specs.declared.pairs.ScratchFault.TheVariants as fault
+
+-- ==== The steps by which a new file gets its name
+-- Steps are those of the trait `Folder`.
 
 -- a step on the files at some paths
 pub data Step : Type 0 where
@@ -12,8 +21,7 @@ pub data Step : Type 0 where
   Cleared : List ℕ → List ℕ → Step
   -- a file was made and removed again
   Tried : List ℕ → Step
-  -- a scratch copy of the first file was made at the second path: repaired (true), or byte for byte with
-  -- its WAL
+  -- the first file got a scratch copy at the second path: repaired (true), or byte for byte with its WAL
   ScratchCopied : List ℕ → List ℕ → Bool → Step
   Removed : List ℕ → Step
   -- from the first path to the second
@@ -136,11 +144,88 @@ pub record IsNotFree (to : List ℕ) (steps : Steps) : Type 0 where
   pub made : Follows steps (before ++ Failed ∷ [])
   pub looks : All (ClearsOwn to) before
 
--- the new file doesn't get its name; or, after the steps `first`, it gets its name, but its folder can't be
--- synced
+-- the new file doesn't get its name; or, after the steps `first`, it does, but its folder can't be synced
 abbrev pub IsUnnamed : List Step → List ℕ → Steps → Type 0
 IsUnnamed first to steps = LeavesNames steps ⊎ Follows steps (first ++ named_steps to Failed)
 
 -- nothing is found at any of the names, then the new file gets its name, and its folder is synced
 abbrev pub IsNamed : List ℕ → Steps → Type 0
 IsNamed to steps = Follows steps (free_steps to ++ named_steps to (Synced to))
+
+-- ==== What is reported of a new file or a scratch copy that can't be made, by the kind of the error
+-- why a new file can't be made
+abbrev pub creation_error_text : ErrorKind → List ℕ
+creation_error_text kind.AlreadyExists = codes "it is there already"
+creation_error_text kind.NotFound = codes "no such folder"
+creation_error_text kind.NotADirectory = codes "no such folder"
+creation_error_text kind.PermissionDenied = codes "no right to make it"
+creation_error_text kind.ReadOnlyFilesystem = codes "a read-only file system"
+creation_error_text kind.StorageFull = codes "a full disk"
+creation_error_text kind.QuotaExceeded = codes "a full disk"
+creation_error_text _ = codes "it can't be made"
+
+-- the reported text, and whether it is of the source (true) or scratch copy (false); None if memory ran out
+abbrev pub fault_text : ScratchFault → Option (Bool × List ℕ)
+fault_text fault.OutOfMemory = None
+fault_text (fault.Source cause) = Some (true, cause.now)
+fault_text (fault.ScratchCopy cause) = Some (false, cause.now)
+
+-- the same for a scratch copy whose file can't be made, by the kind of the error
+abbrev pub made_text : ErrorKind → Option (Bool × List ℕ)
+made_text kind.OutOfMemory = None
+made_text it = Some (false, creation_error_text it)
+
+-- the same for a source that can't be opened, and for one that can't be copied, by the kind of the error
+abbrev pub source_text : ErrorKind → Option (Bool × List ℕ)
+source_text kind.OutOfMemory = None
+source_text _ = Some (true, codes "it can't be read")
+
+abbrev pub copy_text : ErrorKind → Option (Bool × List ℕ)
+copy_text kind.OutOfMemory = None
+copy_text kind.StorageFull = Some (false, codes "a full disk")
+copy_text kind.QuotaExceeded = Some (false, codes "a full disk")
+copy_text _ = Some (false, codes "it can't be written, or what it is made of can't be read")
+
+-- a fault is the one that is reported, with the text `text`, for some kind of error
+pub record IsScratchFaultBy (text : ErrorKind → Option (Bool × List ℕ)) (fault : ScratchFault) : Type 0 where
+  pub kind : ErrorKind
+  pub is : fault_text fault ≡ text kind
+
+-- why a copy was not written: the source can't be opened, its file can't be made, or copying stopped
+abbrev pub IsCopyFault : ScratchFault → Type 0
+IsCopyFault fault = IsScratchFaultBy source_text fault
+    ⊎ (IsScratchFaultBy made_text fault ⊎ IsScratchFaultBy copy_text fault)
+
+-- ==== What is reported to the administrator on the standard error
+-- some text is appended to the standard error: the definition doesn't say which
+pub record Reports (writes : Course (Option (List ℕ))) : Type 0 where
+  pub text : List ℕ
+  pub reported : Appends writes.before writes.after text
+
+-- the line that reports a text about a file
+unfoldable pub line_of : List ℕ → List ℕ → List ℕ
+line_of path text = codes "uss_desk: " ++ (path ++ (codes ": " ++ (text ++ codes "\n")))
+
+abbrev pub unenrolled_text : List ℕ
+unenrolled_text = codes "no operator is enrolled, so each request is answered 403"
+
+-- the line that reports that a desk has no operator, by the path of its file, if it has one
+abbrev pub unenrolled_line : Option (List ℕ) → List ℕ
+unenrolled_line (Some path) = line_of path unenrolled_text
+unenrolled_line None = line_of (codes "in memory") unenrolled_text
+
+-- a line is written: whole, or up to where the write broke off (`cut`)
+abbrev pub IsWrittenUpTo : {E : Type 0} → List ℕ → Option (WriteError E) → Course (Option (List ℕ)) → Type 0
+IsWrittenUpTo line None writes = Appends writes.before writes.after line
+IsWrittenUpTo line (Some cut) writes = BreaksOff line writes.before writes.after cut.fault
+
+-- a line is written: whole, or up to where the write broke off, wherever that was
+abbrev pub IsWrittenOnce : List ℕ → Course (Option (List ℕ)) → Type 0
+IsWrittenOnce line writes = Appends writes.before writes.after line
+    ⊎ ((fault : PartialWrite) × BreaksOff line writes.before writes.after fault)
+
+-- the same; or nothing is written, since memory ran out for the line
+abbrev pub IsWrittenIfRoom : List ℕ → Course (Option (List ℕ)) → Type 0
+IsWrittenIfRoom line writes =
+    (writes.after ≡ writes.before) ⊎ Appends writes.before writes.after line
+    ⊎ ((fault : PartialWrite) × BreaksOff line writes.before writes.after fault)

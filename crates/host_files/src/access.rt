@@ -2,13 +2,9 @@
 //! the rows.
 
 ghost use Rattle.std.specs.Prelude.{◌≡◌, IfSome, option_map};
-ghost use Rattle.desk_program.specs.Outside.{bytes_written};
+ghost use Rattle.desk_program.specs.Keeping.{bytes_written};
 ghost use Rattle.host_files.specs.Access as spec;
-ghost use Rattle.host_files.specs.Access.{IsCauseBy, IsDenialText};
-ghost use Rattle.host_files.specs.Openings.{OpensAtMost};
-ghost use Rattle.host_files.specs.Reporting.{Reports};
-ghost use Rattle.host_files.specs.Naming.{Free, TakesIfNone};
-ghost use Rattle.host_files.specs.FolderSteps.{steps_of};
+ghost use Rattle.host_files.specs.{Access.IsCauseBy, Access.IsDenialText, Paths.OpensAtMost, Paths.steps_of, Naming.Reports, Naming.Free, Naming.TakesIfNone};
 
 use crate::files::{HostFiles, LocalHost};
 use crate::naming::{Folder, IN_USE, READ_ONLY, TAKEN, is_no_path};

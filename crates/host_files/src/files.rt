@@ -1,12 +1,11 @@
 //! What the program asks the operating system about files before it opens one. No contract says what the
 //! answers are: contracts of functions that use `HostFiles` say what follows from the answers.
 
-ghost use Rattle.std.specs.Prelude.{◌≡◌, ◌∷◌, [], ℕ, Err, IfOk, IfSome, List, MatchResult, None, Option};
-ghost use Rattle.std.specs.Prelude.{string_bytes};
+ghost use Rattle.std.specs.Prelude.{◌≡◌, ◌∷◌, [], ℕ, Err, IfOk, IfSome, List, MatchResult, None, Option, string_bytes};
 ghost use Rattle.std.specs.IoError.{error_kind};
 ghost use Rattle.desk_program.specs.Serving.{Grows};
 ghost use Rattle.host_files.specs.Access as spec;
-ghost use Rattle.host_files.specs.Answers.{Answers, IsFoundAs, by_ok, error_of};
+ghost use Rattle.host_files.specs.Access.{Answers, IsFoundAs, by_ok, error_of};
 
 use crate::state::Denial;
 use db_file::{count_bad_checksums, has_other_order, takes_commit};

@@ -1,14 +1,10 @@
 //! How a new file gets its name: it is written under a temporary name, and renamed once it is complete.
 
-ghost use Rattle.std.specs.Prelude.{◌≡◌, ℕ, ◌++◌, [], List, Option, None, false, true, IfOk, IfSome};
-ghost use Rattle.std.specs.Prelude.{string_bytes};
-ghost use Rattle.desk_wire.specs.Passage.{course};
+ghost use Rattle.std.specs.Prelude.{◌≡◌, ℕ, ◌++◌, [], List, Option, None, false, true, IfOk, IfSome, string_bytes};
+ghost use Rattle.desk_wire.specs.Streams.{course};
 ghost use Rattle.host_files.specs.Access as access;
-ghost use Rattle.host_files.specs.LeftFiles as left;
-ghost use Rattle.host_files.specs.Naming.{AreNames, ChangesOwn, Cleared, Follows, Free, HasFailedStep, IsUnnamed, Ordered};
-ghost use Rattle.host_files.specs.Unmade as unmade;
-ghost use Rattle.host_files.specs.Naming.{Removed, Renamed, Step, Synced, Takes, TakesAll, TakesIfNone, Tried, ScratchCopied};
-ghost use Rattle.host_files.specs.Naming.{named_steps};
+ghost use Rattle.host_files.specs.Naming.{AreNames, ChangesOwn, Cleared, Follows, Free, HasFailedStep, IsUnnamed, Ordered, Removed, Renamed, Step, Synced, Takes, TakesAll, TakesIfNone, Tried, ScratchCopied, named_steps};
+ghost use Rattle.host_files.specs.Naming as unmade;
 
 use crate::files::{HostFiles, LocalHost};
 use crate::pairs::{ScratchFault, write_scratch};
@@ -154,7 +150,7 @@ pub fn is_no_path(path: &str) -> bool
 
 /// Whether it is certain that nothing exists at a path, not even a link; false if that can't be found out.
 pub(crate) fn is_missing<F: HostFiles>(files: &F, path: &str) -> bool
-    ensures { IfSome (F.answers files.now) (λ it. result ≡ left.is_missing it path.now) }
+    ensures { IfSome (F.answers files.now) (λ it. result ≡ access.is_missing it path.now) }
 {
     match files.find_entry(path) {
         Err(ErrorKind::NotFound) => true,
@@ -165,7 +161,7 @@ pub(crate) fn is_missing<F: HostFiles>(files: &F, path: &str) -> bool
 // Whether what is at `path` may be removed as left by an interrupted copy: nothing is there, or a regular
 // file other than `source`.
 fn is_left<F: HostFiles>(files: &F, source: &str, path: &str) -> bool
-    ensures { IfSome (F.answers files.now) (λ it. result ≡ left.is_left it source.now path.now) }
+    ensures { IfSome (F.answers files.now) (λ it. result ≡ access.is_left it source.now path.now) }
 {
     match files.find_entry(path) {
         Ok(found) if found.is_file => !is_at(files, source, Some(found.identity)),

@@ -1,9 +1,9 @@
 //! Makes the scratch copy of a database file: repaired, or byte for byte together with its WAL.
 
 ghost use Rattle.std.specs.Prelude.{◌≡◌, IfErr, IfSome};
-ghost use Rattle.host_files.specs.LeftFiles as left;
-ghost use Rattle.host_files.specs.Unmade as spec;
-ghost use Rattle.host_files.specs.Unmade.{IsCopyFault, IsScratchFaultBy};
+ghost use Rattle.host_files.specs.Access as left;
+ghost use Rattle.host_files.specs.Naming as spec;
+ghost use Rattle.host_files.specs.Naming.{IsCopyFault, IsScratchFaultBy};
 
 use crate::access::access_cause;
 use crate::files::{HostFiles, LocalHost};

@@ -1,10 +1,9 @@
 //! Whether the paths of a desk's open files still lead to these files.
 
-ghost use Rattle.std.specs.Prelude.{◌≡◌, [], ◌∷◌, IfErr, IfOk, IfSome, List, None, Option, string_bytes, true};
-ghost use Rattle.std.specs.Prelude.{unwrap_or};
+ghost use Rattle.std.specs.Prelude.{◌≡◌, [], ◌∷◌, IfErr, IfOk, IfSome, List, None, Option, string_bytes, true, unwrap_or};
 ghost use Rattle.desk_cli.specs.Lines.{file_of};
 ghost use Rattle.desk_cli.specs.declared.failure.ErrorCode.TheVariants.{Memory};
-ghost use Rattle.host_files.specs.LeftFiles as left;
+ghost use Rattle.host_files.specs.Access as left;
 ghost use Rattle.desk_program.specs.Serving.{Grows};
 ghost use Rattle.host_files.specs.Paths as spec;
 ghost use Rattle.host_files.specs.Paths.{File, IsUnheldAt, Log, Look};

@@ -4,9 +4,7 @@
 ghost use Rattle.std.specs.Prelude.{◌≡◌, Err, IfOk, IfSome, MatchResult, Option, List, ℕ};
 ghost use Rattle.std.specs.Io.KnownBytes.{Consumes};
 ghost use Rattle.host_files.specs.Access as spec;
-ghost use Rattle.host_files.specs.Access.{IsStartAt, IsStateAt, MayFind};
-ghost use Rattle.host_files.specs.Answers.{error_of};
-ghost use Rattle.host_files.specs.Openings.{OpensAtMost};
+ghost use Rattle.host_files.specs.{Access.IsStartAt, Access.IsStateAt, Access.MayFind, Access.error_of, Paths.OpensAtMost};
 
 use crate::files::{HostFiles, LocalHost};
 use crate::naming::is_no_path;

@@ -1,9 +1,9 @@
 //! Lines for the administrator on the standard error: `uss_desk: NAME: TEXT`.
 
 ghost use Rattle.std.specs.Prelude.{◌≡◌, IfOk, option_map, string_bytes};
-ghost use Rattle.desk_program.specs.Outside.{bytes_written};
-ghost use Rattle.host_files.specs.Reporting as spec;
-ghost use Rattle.host_files.specs.Reporting.{IsWrittenIfRoom, IsWrittenUpTo, Reports};
+ghost use Rattle.desk_program.specs.Keeping.{bytes_written};
+ghost use Rattle.host_files.specs.Naming as spec;
+ghost use Rattle.host_files.specs.Naming.{IsWrittenIfRoom, IsWrittenUpTo, Reports};
 
 use desk_cli::find_malformed_argument;
 use io_ends::{WriteError, write_whole};
@@ -31,7 +31,7 @@ pub fn report_text<E: Write>(alloc: Global, path: &str, text: &str, errors: &mut
 /// # Errors
 ///
 /// `AllocError` if memory runs out.
-#[tactic(auto, unfolding(crate::specs::Reporting::line_of))]
+#[tactic(auto, unfolding(crate::specs::Naming::line_of))]
 pub fn line_of(alloc: Global, path: &str, text: &str) -> Result<String, AllocError>
     ensures { IfOk result (λ line. string_bytes line ≡ spec.line_of path.now text.now) }
 {

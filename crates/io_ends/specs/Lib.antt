@@ -1,5 +1,1 @@
--- Read first: Writes, Writing, Moments.
-pub mod Moments
-pub mod Writes
 pub mod Writing
-pub mod EndWords

@@ -1,7 +1,7 @@
 //! Moments: the Unix seconds at which requests are decided.
 
 ghost use Rattle.std.specs.Prelude.{◌≡◌, None, IfSome};
-ghost use Rattle.io_ends.specs.Moments.{IsMoment};
+ghost use Rattle.io_ends.specs.Writing.{IsMoment};
 
 use volume4d::MAX_SECOND;
 

@@ -32,7 +32,7 @@ pub enum ServeFault {
 
 impl fmt::Display for ServeFault {
     ghost use Rattle.std.specs.Prelude.{Some};
-    ghost use Rattle.io_ends.specs.EndWords.{serve_fault_text};
+    ghost use Rattle.io_ends.specs.Writing.{serve_fault_text};
 
     ghost output = { λ fault. Some (serve_fault_text fault) };
 

@@ -1,9 +1,8 @@
 //! Counted calls of `Write::write`.
 
 ghost use Rattle.std.specs.Prelude.{◌≡◌, ◌↔◌, ◌+◌, ◌<◌, ◌^◌, ◌-◌, IsTrue};
-ghost use Rattle.std.specs.Io.{WritesAtMost};
-ghost use Rattle.std.specs.Io.KnownBytes.{WriteAppends};
-ghost use Rattle.io_ends.specs.Writes.{IsLast};
+ghost use Rattle.std.specs.{Io.WritesAtMost, Io.KnownBytes.WriteAppends};
+ghost use Rattle.io_ends.specs.Writing.{IsLast};
 
 use crate::interruption::is_interrupted;
 use std::io::{self, Write};

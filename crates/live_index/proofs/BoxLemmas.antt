@@ -3,7 +3,7 @@ use Rattle.std.proofs.Common.{◌≡◌, ℕ, ◌+◌, ◌≤◌, ◌<◌, List,
 use Rattle.std.specs.List.{AllByRecursion}
 use Rattle.std.proofs.lemmas.List.{take_more}
 use Rattle.volume4d.specs.declared.slab.Slab.{Slab}
-use Rattle.volume4d.specs.Bounds.{IsJoin}
+use Rattle.volume4d.specs.Slab.{IsJoin}
 use Rattle.volume4d.proofs.lemmas.Bounds.{left_in, right_in, within_itself, within_through}
 use Rattle.desk_store.proofs.lemmas.Order.{all_weaker, all_append}
 use Rattle.live_index.specs.declared.bbox.BoundingBox.{BoundingBox}

@@ -14,17 +14,13 @@ use Rattle.std.proofs.lemmas.List.Folds.{list_any-append, list_any_more}
 use Rattle.std.proofs.lemmas.List.Sorted.{list_any-IsPermutation}
 use Rattle.std.proofs.lemmas.Map.Lookups.{exact_bytes}
 use Rattle.volume4d.specs.declared.slab.Slab.{Slab}
-use Rattle.volume4d.specs.Bounds.{HasAll, overlap}
-use Rattle.volume4d.specs.Level.{greater, level_where}
-use Rattle.volume4d.specs.Point.{Point}
-use Rattle.volume4d.specs.Slab.{slab_has, slabs_have}
-use Rattle.volume4d.specs.Volume.{Block, block_has, area_has}
+use Rattle.volume4d.specs.Slab.{HasAll, overlap, greater, level_where, slab_has, slabs_have}
+use Rattle.volume4d.specs.Volume.{Point, Block, block_has, area_has}
 use Rattle.volume4d.proofs.lemmas.Bounds.{overlapping, within_has}
 use Rattle.desk_rules.specs.Conflict.{at_least}
-use Rattle.desk_rules.specs.Plan.{is_live, row_holds}
-use Rattle.desk_store.specs.World.{Filed, World, has_id, is_by, text_cmp}
-use Rattle.desk_store.specs.OwnRows as rows
-use Rattle.desk_store.specs.OwnRows.{other_level, others_top, rival_level, rivals_top}
+use Rattle.desk_rules.specs.Outcome.{is_live, row_holds}
+use Rattle.desk_store.specs.World.{Filed, World, has_id, is_by, text_cmp, other_level, others_top, rival_level, rivals_top}
+use Rattle.desk_store.specs.World as rows
 use Rattle.desk_store.proofs.lemmas.Order.{is_equal}
 use Rattle.desk_store.proofs.lemmas.Rival.{at_least_greater, others_top-cons, others_top-nil, held_by_others, rivals_top-cons, rivals_top-nil, held_by_rivals}
 use Rattle.live_index.specs.declared.bbox.BoundingBox.{BoundingBox}
@@ -33,10 +29,8 @@ use Rattle.live_index.specs.declared.near.PlanKey.{PlanKey}
 use Rattle.live_index.specs.declared.near.Wanted.{Wanted}
 use Rattle.slab_regions.specs.declared.sought.SearchArea.{SearchArea}
 use Rattle.live_index.specs.declared.volume.LiveVolume.{LiveVolume}
-use Rattle.live_index.specs.Live.{AreLive, AreVolumes, AreVolumesOf, IsInBox, IsLiveVolume, is_volume_of, may_meet, gather}
-use Rattle.live_index.specs.Places.{key_cmp}
-use Rattle.slab_regions.specs.SearchArea.{meets, sought_has}
-use Rattle.live_index.specs.Near.{AddsPlans, AreNearPlans, AreWantedPlans, IsNotOwnPlan, ListsSamePlans, TakesPlan, is_among, is_id, is_listed, is_missed_at, is_near_to, is_own_volume, is_wanted_volume, key_of, listed_level, listed_top}
+use Rattle.live_index.specs.Live.{AreLive, AreVolumes, AreVolumesOf, IsInBox, IsLiveVolume, is_volume_of, may_meet, gather, key_cmp, AddsPlans, AreNearPlans, AreWantedPlans, IsNotOwnPlan, ListsSamePlans, TakesPlan, is_among, is_id, is_listed, is_missed_at, is_near_to, is_own_volume, is_wanted_volume, key_of, listed_level, listed_top}
+use Rattle.slab_regions.specs.Regions.{meets, sought_has}
 use Rattle.live_index.proofs.GatherLemmas.{all_at, gathered_more}
 use Rattle.live_index.proofs.lemmas.Live.{and_turned, same_key}
 

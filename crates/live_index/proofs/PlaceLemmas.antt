@@ -13,9 +13,7 @@ use Rattle.desk_store.proofs.lemmas.Order.{is_equal}
 use Rattle.live_index.specs.declared.near.PlanKey.{PlanKey}
 use Rattle.live_index.specs.declared.places.Places.{Places}
 use Rattle.live_index.specs.declared.volume.LiveVolume.{LiveVolume}
-use Rattle.live_index.specs.Live.{ArePlaced, count_of, is_of_other_plan, is_volume_of}
-use Rattle.live_index.specs.Near.{key_of}
-use Rattle.live_index.specs.Places.{AreNoFewer, OthersAreNoFewer, HasOneMore, Lists, key_cmp, length_or_none, list_of, places_at, places_in}
+use Rattle.live_index.specs.Live.{ArePlaced, count_of, is_of_other_plan, is_volume_of, key_of, AreNoFewer, OthersAreNoFewer, HasOneMore, Lists, key_cmp, length_or_none, list_of, places_at, places_in}
 use Rattle.live_index.proofs.LeftLemmas.{count_less, none_of}
 use Rattle.live_index.proofs.lemmas.Lists.{IsPermutation-filter}
 use Rattle.std.proofs.lemmas.List.Sorted.{IsPermutation-append_comm, length_permutation as length_permuted}

@@ -5,24 +5,23 @@ use Rattle.std.specs.Ordering.{is_eq}
 use Rattle.std.proofs.lemmas.List.Folds.{list_any-append}
 use Rattle.std.proofs.lemmas.List.Sorted.{list_any-IsPermutation}
 use Rattle.volume4d.specs.declared.slab.Slab.{Slab}
-use Rattle.volume4d.specs.Bounds.{overlap}
-use Rattle.volume4d.specs.Level.{greater, level_where}
-use Rattle.volume4d.specs.Point.{Point}
-use Rattle.volume4d.specs.Slab.{slab_has, slabs_have}
+use Rattle.volume4d.specs.Slab.{overlap, greater, level_where, slab_has, slabs_have}
+use Rattle.volume4d.specs.Volume.{Point, Block, block_has, area_has}
 use Rattle.volume4d.proofs.lemmas.Bounds.{overlapping, overlaps_round}
-use Rattle.volume4d.specs.Volume.{Block, block_has, area_has}
-use Rattle.desk_rules.specs.Plan.{is_live, row_holds}
-use Rattle.desk_store.specs.World.{Filed, World, held, is_by, text_cmp}
-use Rattle.desk_store.specs.OwnRows.{other_level, others_top}
+use Rattle.desk_rules.specs.Outcome.{is_live, row_holds}
+use Rattle.desk_store.specs.World.{Filed, World, held, is_by, text_cmp, other_level, others_top}
 use Rattle.desk_store.proofs.lemmas.Rival.{others_top-cons, others_top-nil, held_by_others}
 use Rattle.live_index.specs.declared.volume.LiveVolume.{LiveVolume}
 use Rattle.live_index.specs.declared.bbox.BoundingBox.{BoundingBox}
 use Rattle.live_index.specs.declared.chunk.Chunk.{Chunk}
 use Rattle.live_index.specs.declared.group.Group.{Group}
 use Rattle.live_index.specs.declared.live.LiveIndex.{LiveIndex}
-use Rattle.live_index.specs.Live.{AreBoundedGroups, AreKeptOnce, AreLive, AreVolumes, AreVolumesOf, IsInBox, IsBoundedGroup, IsLiveVolume, IsBoundedChunk, gather, volumes_in, volumes_of, volumes_under}
+use Rattle.live_index.specs.Live.{AreBoundedGroups, AreKeptOnce, AreLive, AreVolumes, AreVolumesOf, IsInBox, IsBoundedGroup, IsLiveVolume, IsBoundedChunk, gather, volumes_in, volumes_of, volumes_under, HoldNothingBeside, chunk_has_theirs, group_has_theirs, has_theirs, is_another, is_theirs}
 use Rattle.slab_regions.specs.Regions.{HaveEach}
-use Rattle.live_index.specs.Regions.{HoldNothingBeside, chunk_has_theirs, group_has_theirs, has_theirs, is_another, is_theirs, is_theirs_at}
+
+-- whether it is another operator's, and its bounds have a point
+abbrev pub is_theirs_at : List ℕ → Point → LiveVolume → Bool
+is_theirs_at operator x live = is_another operator live && slab_has live.bounds x
 
 either : (a b : Bool) → (a || b) ≡ false → (a ≡ false) × (b ≡ false)
 either false false h = (refl, refl)

@@ -4,9 +4,8 @@ use Rattle.std.specs.List.{AllZip}
 use Rattle.std.proofs.Math.Path.{fun_ext}
 use Rattle.std.proofs.lemmas.List.{append_assoc, take_more}
 use Rattle.volume4d.specs.declared.slab.Slab.{Slab}
-use Rattle.volume4d.specs.Point.{Point}
-use Rattle.volume4d.specs.Bounds.{IsBounds}
-use Rattle.volume4d.specs.Volume.{Block}
+use Rattle.volume4d.specs.Volume.{Point, Block}
+use Rattle.volume4d.specs.Slab.{IsBounds}
 use Rattle.desk_store.specs.World.{Filed}
 use Rattle.live_index.specs.declared.volume.LiveVolume.{LiveVolume}
 use Rattle.live_index.specs.Live.{IsLiveVolume, AddsLiveVolumes, AddsLivePlan, AreVolumes}

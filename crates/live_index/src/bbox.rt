@@ -2,8 +2,7 @@
 
 ghost use Rattle.std.specs.Prelude.{◌≡◌, false, ◌∷◌};
 ghost use Rattle.std.specs.List.{AllByRecursion};
-ghost use Rattle.volume4d.specs.Point.{Point};
-ghost use Rattle.volume4d.specs.Slab.{slab_has};
+ghost use Rattle.volume4d.specs.{Volume.Point, Slab.slab_has};
 ghost use Rattle.live_index.specs.Live as spec;
 ghost use Rattle.live_index.specs.Live.{IsInBox};
 ghost use Rattle.live_index.specs.declared.volume.LiveVolume.{LiveVolume as Live};

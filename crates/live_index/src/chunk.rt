@@ -3,11 +3,8 @@
 ghost use Rattle.std.specs.Prelude.{◌≡◌, ◌+◌, ◌-◌, ◌≤◌, ◌∷◌, ◌++◌, ◌<◌, [], true, length, slice_get, IfOk, OnOk, OnErr, IfSome, IsPermutation};
 ghost use Rattle.std.specs.List.{AllByRecursion, filter};
 ghost use Rattle.live_index.specs.Live as spec;
-ghost use Rattle.live_index.specs.Live.{AreBoundedChunks, IsInBox, RemovesPlanVolumes, IsBoundedChunk};
-ghost use Rattle.live_index.specs.Live.{chunk_has_plan, is_of_other_plan, volumes_in};
-ghost use Rattle.live_index.specs.Regions.{chunk_has_theirs};
-ghost use Rattle.live_index.specs.Near.{AddsPlans};
-ghost use Rattle.slab_regions.specs.SearchArea.{sought_has};
+ghost use Rattle.live_index.specs.Live.{AreBoundedChunks, IsInBox, RemovesPlanVolumes, IsBoundedChunk, chunk_has_plan, is_of_other_plan, volumes_in, chunk_has_theirs, AddsPlans};
+ghost use Rattle.slab_regions.specs.Regions.{sought_has};
 
 use crate::bbox::BoundingBox;
 use crate::changing::{push_all, remove_plan_volumes};

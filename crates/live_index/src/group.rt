@@ -1,13 +1,9 @@
 //! Groups of chunks, each within a bounding box of its own, so that a query skips most chunks.
 
 ghost use Rattle.std.specs.Prelude.{◌≡◌, ◌∷◌, ◌++◌, [], true, ◌<◌, ◌≤◌, ◌+◌, ◌-◌, length, slice_get, IfOk, OnOk, OnErr, IfSome, IsPermutation};
-ghost use Rattle.std.specs.List.{AllByRecursion, filter};
-ghost use Rattle.std.specs.List.{insert as insert_at};
-ghost use Rattle.live_index.specs.Live.{AreBoundedChunks, AreBoundedGroups, IsInBox, IsBoundedGroup, RemovesPlanVolumes, count_of};
-ghost use Rattle.live_index.specs.Live.{group_has_plan, is_of_other_plan, volumes_in, volumes_under};
-ghost use Rattle.live_index.specs.Regions.{group_has_theirs};
-ghost use Rattle.live_index.specs.Near.{AddsPlans};
-ghost use Rattle.slab_regions.specs.SearchArea.{sought_has};
+ghost use Rattle.std.specs.List.{AllByRecursion, filter, insert as insert_at};
+ghost use Rattle.live_index.specs.Live.{AreBoundedChunks, AreBoundedGroups, IsInBox, IsBoundedGroup, RemovesPlanVolumes, count_of, group_has_plan, is_of_other_plan, volumes_in, volumes_under, group_has_theirs, AddsPlans};
+ghost use Rattle.slab_regions.specs.Regions.{sought_has};
 
 use crate::bbox::BoundingBox;
 use crate::chunk as chunks;

@@ -1,18 +1,10 @@
 //! The index of the volumes of all live plans.
 
 ghost use Rattle.std.specs.Prelude.{◌≡◌, ◌≤◌, ◌-◌, ◌++◌, not, ◌∷◌, [], List, length, IfOk, IfSome, OnOk};
-ghost use Rattle.std.specs.List.{filter};
-ghost use Rattle.std.specs.List.Sorted.{IsStrictlySortedBy};
-ghost use Rattle.desk_store.specs.World.{Filed, World, filed_cmp};
-ghost use Rattle.desk_store.specs.Changes.{filed_by};
-ghost use Rattle.desk_store.specs.StoreChange.{changed_by};
-ghost use Rattle.live_index.specs.Live.{AreAddedBy, AreBoundedGroups, AreKeptOnce, ArePlaced, AreSettled};
-ghost use Rattle.live_index.specs.Live.{AreVolumes, HasLeft, HasRoomForVolumes};
-ghost use Rattle.live_index.specs.Live.{gathered_in, is_of_other_plan, is_of_any, stays_at};
-ghost use Rattle.live_index.specs.Live.{volumes_of, volumes_under};
-ghost use Rattle.live_index.specs.Regions.{HoldNothingBeside, has_theirs};
-ghost use Rattle.live_index.specs.Near.{AddsPlans, AreNearPlans, AreWantedPlans};
-ghost use Rattle.slab_regions.specs.SearchArea.{sought_has};
+ghost use Rattle.std.specs.{List.filter, List.Sorted.IsStrictlySortedBy};
+ghost use Rattle.desk_store.specs.{World.Filed, World.World, World.filed_cmp, Changes.filed_by, Changes.changed_by};
+ghost use Rattle.live_index.specs.Live.{AreAddedBy, AreBoundedGroups, AreKeptOnce, ArePlaced, AreSettled, AreVolumes, HasLeft, HasRoomForVolumes, gathered_in, is_of_other_plan, is_of_any, stays_at, volumes_of, volumes_under, HoldNothingBeside, has_theirs, AddsPlans, AreNearPlans, AreWantedPlans};
+ghost use Rattle.slab_regions.specs.Regions.{sought_has};
 ghost use Rattle.volume4d.specs.Slab.{slabs_have};
 
 use crate::changing::{push_all, push_plan, remove_plan_volumes, volumes_added_by};

@@ -1,8 +1,8 @@
 //! A collector of the plans whose volumes are near extents, as long as reading them costs few rows.
 
 ghost use Rattle.std.specs.Prelude.{◌≡◌, ◌∷◌, [], true, IfOk, IfSome, OnOk};
-ghost use Rattle.live_index.specs.Near.{AddsPlans, ListsSamePlans, TakesPlan, is_among};
-ghost use Rattle.slab_regions.specs.SearchArea.{sought_has};
+ghost use Rattle.live_index.specs.Live.{AddsPlans, ListsSamePlans, TakesPlan, is_among};
+ghost use Rattle.slab_regions.specs.Regions.{sought_has};
 
 use crate::volume::LiveVolume;
 use desk_rules::operator::Operator;

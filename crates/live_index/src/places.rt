@@ -1,9 +1,7 @@
 //! The places of each plan's volumes in the order of chunks.
 
 ghost use Rattle.std.specs.Prelude.{◌≡◌, ◌≤◌, [], length, None, IsSome, IfOk, OnOk};
-ghost use Rattle.live_index.specs.Live.{ArePlaced};
-ghost use Rattle.live_index.specs.Near.{key_of};
-ghost use Rattle.live_index.specs.Places.{AreNoFewer, OthersAreNoFewer, HasOneMore, list_of, places_in};
+ghost use Rattle.live_index.specs.Live.{ArePlaced, key_of, AreNoFewer, OthersAreNoFewer, HasOneMore, list_of, places_in};
 
 use crate::near::PlanKey;
 use crate::volume::LiveVolume;

@@ -4,8 +4,6 @@ ghost use Rattle.std.specs.Prelude.{◌≡◌, IfOk};
 ghost use Rattle.desk_store.specs.Changes.{filed_by};
 ghost use Rattle.live_index.specs.Live as spec;
 ghost use Rattle.live_index.specs.Live.{IsLiveVolume};
-ghost use Rattle.live_index.specs.Near as near;
-ghost use Rattle.live_index.specs.Regions as regions;
 
 use crate::near::{PlanKey, Wanted};
 use crate::order::{Rank, place_of};
@@ -68,7 +66,7 @@ impl LiveVolume {
 
     /// The key of the volume's plan.
     pub(crate) fn key(&self) -> PlanKey
-        ensures { result ≡ near.key_of self.now }
+        ensures { result ≡ spec.key_of self.now }
     {
         PlanKey {
             operator: self.operator,
@@ -79,7 +77,7 @@ impl LiveVolume {
     /// The rank of the volume in the order of chunks.
     pub(crate) fn rank(&self) -> Rank
         ensures place { result.place ≡ self.now.place }
-        ensures plan { result.plan ≡ near.key_of self.now }
+        ensures plan { result.plan ≡ spec.key_of self.now }
     {
         Rank::of(&self.key(), self.place)
     }
@@ -87,7 +85,7 @@ impl LiveVolume {
     // Whether the volume belongs to a plan that `wanted` leaves out: that of its operator with its id, or any
     // plan of its operator if it has no id.
     fn is_own(&self, wanted: &Wanted) -> bool
-        ensures { result ≡ near.is_own_volume wanted.now self.now }
+        ensures { result ≡ spec.is_own_volume wanted.now self.now }
     {
         match wanted.id {
             Some(id) => self.is_of(&wanted.operator, &id),
@@ -97,7 +95,7 @@ impl LiveVolume {
 
     /// Whether the volume's plan is wanted, by its priority and its owner, and its bounds overlap `sought`.
     pub(crate) fn is_near_to(&self, wanted: &Wanted, sought: &SearchArea) -> bool
-        ensures { result ≡ near.is_near_to wanted.now sought.now self.now }
+        ensures { result ≡ spec.is_near_to wanted.now sought.now self.now }
     {
         if !sought.meets(&self.bounds) {
             return false;
@@ -110,7 +108,7 @@ impl LiveVolume {
 
     /// Whether the volume belongs to another operator than `operator`, and its bounds overlap `extent`.
     pub(crate) fn is_theirs(&self, operator: &Operator, extent: &Slab) -> bool
-        ensures { result ≡ regions.is_theirs operator.now extent.now self.now }
+        ensures { result ≡ spec.is_theirs operator.now extent.now self.now }
     {
         if operator.cmp(&self.operator).is_eq() {
             return false;

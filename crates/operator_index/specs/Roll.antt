@@ -1,22 +1,13 @@
 -- The index of a store's operators: the ceiling of each, and the states and the sizes of its plans.
 use Rattle.std.specs.Prelude.{◌≡◌, ◌≢◌, ⊤, ℕ, ◌+◌, ◌≤◌, Bool, false, not, cond, List, [], ◌∷◌, Option, Some, None, map, length}
-use Rattle.std.specs.List.{filter, find, list_any, sum_by}
-use Rattle.std.specs.Option.{option_and_then, option_map}
+use Rattle.std.specs.{List.filter, List.find, List.list_any, List.sum_by, Option.option_and_then, Option.option_map, Ordering.is_eq, Ordering.match_ordering, BTreeMap.is_at, Map.lookup}
 use Rattle.std.specs.declared.cmp.Ordering.TheVariants.{Greater}
-use Rattle.std.specs.Ordering.{is_eq, match_ordering}
-use Rattle.std.specs.BTreeMap.{is_at}
-use Rattle.std.specs.Map.{lookup}
-use Rattle.desk_rules.specs.declared.plan.PlanRow.{PlanRow}
-use Rattle.desk_rules.specs.declared.plan.States.{States}
+use Rattle.desk_rules.specs.declared.plan.{PlanRow.PlanRow, States.States}
 use Rattle.desk_rules.specs.declared.words.Usage.TheVariants as usage
-use Rattle.desk_rules.specs.Plan.{row_cells, row_spans}
-use Rattle.desk_rules.specs.States.{states_in}
+use Rattle.desk_rules.specs.Outcome.{row_cells, row_spans, states_in}
 use Rattle.desk_store.specs.World.{Filed, Listed, World, text_cmp, rows_by}
-use Rattle.desk_store.specs.declared.change.Change.{Change}
-use Rattle.desk_store.specs.declared.change.Change.TheVariants.{Enrol, Put, Close, Clear}
-use Rattle.operator_index.specs.declared.account.PlanState.{PlanState}
-use Rattle.operator_index.specs.declared.account.OperatorEntry.{OperatorEntry}
-use Rattle.operator_index.specs.declared.roll.OperatorIndex.{OperatorIndex}
+use Rattle.desk_store.specs.declared.change.{Change.Change, Change.TheVariants.Enrol, Change.TheVariants.Put, Change.TheVariants.Close, Change.TheVariants.Clear}
+use Rattle.operator_index.specs.declared.{account.PlanState.PlanState, account.OperatorEntry.OperatorEntry, roll.OperatorIndex.OperatorIndex}
 
 -- the operators' names and their entries, ascending by name
 abbrev pub Accounts : Type 0
@@ -30,8 +21,7 @@ state_of row = record { id = row.id; states = states_in row; spans = row_spans r
 abbrev pub state_has_id : List ℕ → PlanState → Bool
 state_has_id id s = is_eq (text_cmp id s.id)
 
--- `count` of a plan, or 0 if it has the id; and the sum of these over plans: it leaves out the plan with the
--- id
+-- `count` of a plan, or 0 if it has the id; and the sum of these over plans: it leaves out that with the id
 abbrev pub counted_unless : (PlanState → ℕ) → List ℕ → PlanState → ℕ
 counted_unless count id s = cond (state_has_id id s) 0 (count s)
 
@@ -88,7 +78,6 @@ or_else None ceiling = Some ceiling
 or_else (Some n) ceiling = Some n
 
 -- ---- changes
-
 -- the operator whose ceiling or plans the change concerns
 abbrev pub changed_operator : Change → List ℕ
 changed_operator (Enrol operator ceiling) = operator

@@ -1,8 +1,7 @@
 //! The entry of an operator in the index, its account: its ceiling, and the states and sizes of its plans.
 
 ghost use Rattle.std.specs.Prelude.{◌≡◌, ◌<◌, ◌≤◌, ◌+◌, ◌^◌, ◌++◌, ◌∷◌, [], not, map, take, drop, length, IfOk, OnOk};
-ghost use Rattle.std.specs.List.{filter, find};
-ghost use Rattle.std.specs.Option.{option_map};
+ghost use Rattle.std.specs.{List.filter, List.find, Option.option_map};
 ghost use Rattle.operator_index.specs.Roll as spec;
 ghost use Rattle.operator_index.specs.Roll.{HasRoomForOne, ceiling_after, close_if, state_has_any_id, state_cells_beside, state_spans_beside, counted_unless, or_else, plans_after, put_state, state_has_id, state_of};
 

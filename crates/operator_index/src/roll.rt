@@ -1,12 +1,10 @@
 //! The index of operators.
 
 ghost use Rattle.std.specs.Prelude.{◌≡◌, ◌++◌, ◌∷◌, ◌<◌, ◌^◌, [], List, length, IsSome, IfOk, OnOk};
-ghost use Rattle.std.specs.List.Sorted.{IsStrictlySortedBy};
-ghost use Rattle.std.specs.Option.{is_some};
-ghost use Rattle.desk_rules.specs.States.{states_of};
+ghost use Rattle.std.specs.{List.Sorted.IsStrictlySortedBy, Option.is_some};
+ghost use Rattle.desk_rules.specs.Outcome.{states_of};
 ghost use Rattle.desk_store.specs.World.{Filed, Listed, World, ceiling_of, listed_cmp, cells_beside, plans_of, spans_beside, stored_of};
-ghost use Rattle.desk_store.specs.Changes.{filed_by};
-ghost use Rattle.desk_store.specs.StoreChange.{changed_by};
+ghost use Rattle.desk_store.specs.Changes.{filed_by, changed_by};
 ghost use Rattle.operator_index.specs.Roll as spec;
 ghost use Rattle.operator_index.specs.Roll.{AreAccountsOf, HasRoomIn, IsReadyFor, IsIndexOf, account_in, accounts_of, listed_if_enrolled};
 

@@ -7,8 +7,7 @@ use Rattle.serde_json.proofs.Views.{items_len-items_view}
 use Rattle.serde_json.specs.View.{items_view}
 use Rattle.serde_json.specs.declared.value.Value.{Value}
 use Rattle.request_parser.proofs.EachLemmas.{length-each}
-use Rattle.request_parser.specs.JsonIn.{each}
-use Rattle.request_parser.specs.VolumeIn.{volume_of, area_of}
+use Rattle.request_parser.specs.Requests.{each, volume_of, area_of}
 use Rattle.request_parser.specs.declared.wire_fault.WireFault.TheVariants.{BadVolume}
 
 pub area_of-uncounted : (vs : List Value) → is_in_range 1 max_volumes (length vs) ≡ false

@@ -5,8 +5,8 @@ use Rattle.serde_json.specs.Data.{Data, Items, no_items, item}
 use Rattle.serde_json.specs.Events.{items_len}
 use Rattle.serde_json.specs.View.{view, items_view}
 use Rattle.serde_json.specs.declared.value.Value.{Value}
-use Rattle.request_parser.specs.Readings.{Reading, or_met}
-use Rattle.request_parser.specs.JsonIn.{each}
+use Rattle.request_parser.specs.Messages.{Reading, or_met}
+use Rattle.request_parser.specs.Requests.{each}
 use Rattle.request_parser.specs.declared.wire_fault.WireFault.{WireFault}
 
 -- what is read in all, where `front` has been read

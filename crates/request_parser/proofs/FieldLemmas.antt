@@ -13,7 +13,7 @@ use Rattle.httparse.specs.declared.spans.HeaderSpan.{HeaderSpan}
 use Rattle.httparse.specs.Spans.{header_bytes}
 use Rattle.request_parser.specs.declared.fields.Occurrence.{Occurrence}
 use Rattle.request_parser.specs.declared.fields.Occurrence.TheVariants.{Absent, Value, More}
-use Rattle.request_parser.specs.Fields.{count_shown, Count, absent, once, more, once_of, values_of}
+use Rattle.request_parser.specs.Heads.{count_shown, Count, absent, once, more, once_of, values_of}
 
 -- ---- values
 

@@ -1,7 +1,7 @@
 -- A search upwards for the least number that passes a test.
 use Rattle.std.proofs.Common.{◌≡◌, ℕ, zero, suc, ◌<◌, Bool, true, Some, None, arith, sym, inl, inr}
 use Rattle.std.proofs.lemmas.Bool.{cases_eq}
-use Rattle.request_parser.specs.Framing.{least}
+use Rattle.request_parser.specs.Heads.{least}
 
 -- no number below n passes, and n does
 pub least_found : (test : ℕ → Bool) (n bound : ℕ) → least test n ≡ None → test n ≡ true → n < bound

@@ -5,8 +5,8 @@ use Rattle.std.specs.Result.{IsErrAnd}
 use Rattle.std.specs.Str.{IsUtf8, is_utf8}
 use Rattle.serde_json.specs.Data.{Data}
 use Rattle.serde_json.specs.Read.{read}
-use Rattle.request_parser.specs.Readings.{Reading, or_fault, GivesIfRoom}
-use Rattle.request_parser.specs.JsonIn.{body_value}
+use Rattle.request_parser.specs.Messages.{Reading, or_fault, GivesIfRoom}
+use Rattle.request_parser.specs.Requests.{body_value}
 use Rattle.request_parser.specs.declared.wire_fault.ReadError.{ReadError}
 use Rattle.request_parser.specs.declared.wire_fault.ReadError.TheVariants.{OutOfMemory, Fault}
 use Rattle.request_parser.specs.declared.wire_fault.WireFault.{WireFault}

@@ -1,14 +1,71 @@
--- The head that a text is, if it is one: RFC 9112, sections 2, 3 and 5, in `httparse`'s grammar.
--- The line ends, spaces and colons of a text leave one head that it can be. It is that head if
--- each part is of its class and the head, printed, is the text.
-use Rattle.std.specs.Prelude.{ℕ, Bool, ◌&&◌, List, [], ◌∷◌, length, map, take, option_and_then, if◌then◌else◌, ◌==◌, nat_lt, nat_le, Option, Some, None, codes, bytes_eq}
-use Rattle.std.specs.List.{list_all, before_first, after_first}
-use Rattle.std.specs.Str.{is_utf8}
-use Rattle.httparse.specs.declared.spans.HeaderSpan.{HeaderSpan}
-use Rattle.httparse.specs.declared.spans.RequestSpans.{RequestSpans}
-use Rattle.httparse.specs.Spans.{span_bytes, header_bytes, name_and_value}
-use Rattle.httparse.specs.Ascii.{line_feed, carriage_return, space, colon}
-use Rattle.httparse.specs.Grammar.{LineEnd, crlf, lf, is_token, is_uri_byte, is_value_byte, Field, RequestHead, print_request}
+-- The head of a request: where it ends, its first line, and its fields.
+use Rattle.std.specs.Prelude.{ℕ, zero, suc, ◌+◌, min, Bool, ◌||◌, List, [], ◌∷◌, length, take, nat_eq, if◌then◌else◌, Option, Some, None, ◌&&◌, map, filter, nat_lt, nat_le, option_and_then, ◌==◌, codes, bytes_eq}
+use Rattle.std.specs.{List.ends_with, List.list_all, List.before_first, List.after_first, Option.option_or, Char.is_ascii_digit, Str.str_eq_ignore_ascii_case, Str.is_utf8, Str.Parse.digits_value}
+use Rattle.httparse.specs.{Ascii.line_feed, Ascii.carriage_return, Ascii.space, Ascii.colon, Spans.span_bytes, Spans.header_bytes, Spans.name_and_value, Grammar.LineEnd, Grammar.crlf, Grammar.lf, Grammar.is_token, Grammar.is_uri_byte, Grammar.is_value_byte, Grammar.Field, Grammar.RequestHead, Grammar.print_request}
+use Rattle.httparse.specs.declared.spans.{HeaderSpan.HeaderSpan, RequestSpans.RequestSpans}
+use Rattle.request_parser.specs.WireLimits.{digit_room}
+use Rattle.request_parser.specs.declared.fields.{Occurrence.Occurrence, Occurrence.TheVariants.Absent, Occurrence.TheVariants.Value, Occurrence.TheVariants.More}
+
+-- ==== A request's head (RFC 9112, section 2.1): the input's shortest prefix that ends in LF LF or LF CR LF
+-- the text ends in LF LF or in LF CR LF
+abbrev pub ends_head : List ℕ → Bool
+ends_head text =
+    ends_with nat_eq text (line_feed ∷ line_feed ∷ [])
+    || ends_with nat_eq text (line_feed ∷ carriage_return ∷ line_feed ∷ [])
+
+-- the least number below the bound (the second argument) that passes the test
+abbrev pub least : (ℕ → Bool) → ℕ → Option ℕ
+least test zero = None
+least test (suc n) = option_or (least test n) (if test n then Some n else None)
+
+-- the length of the head that the text begins with, if it ends within the first `room` bytes
+unfoldable pub head_len : ℕ → List ℕ → Option ℕ
+head_len room text = least (λ n. ends_head (take n text)) (min (length text) room + 1)
+
+-- ==== The fields of a head: RFC 9110, section 5, and RFC 9112, sections 5 and 6
+-- the values of the fields of that name, in any case (RFC 9110, section 5.1)
+abbrev pub values_of : List ℕ → List (List ℕ × List ℕ) → List (List ℕ)
+values_of name fields =
+    map (λ (f : List ℕ × List ℕ). f.1)
+    (filter (λ (f : List ℕ × List ℕ). str_eq_ignore_ascii_case f.0 name) fields)
+
+-- how often a field occurs: never, once with this value, or more than once
+pub data Count : Type 0 where
+  absent : Count
+  once : List ℕ → Count
+  more : Count
+
+-- the count that the values of a field give
+abbrev pub once_of : List (List ℕ) → Count
+once_of [] = absent
+once_of (value ∷ []) = once value
+once_of (value ∷ next ∷ rest) = more
+
+-- how often the field `name` occurs among `fields`, pairs of a name and a value
+abbrev pub count_in : List ℕ → List (List ℕ × List ℕ) → Count
+count_in name fields = once_of (values_of name fields)
+
+-- the count that the code's `Occurrence` stands for
+abbrev pub count_shown : Occurrence → Count
+count_shown Absent = absent
+count_shown (Value value) = once value.now
+count_shown More = more
+
+-- the number that 1 to `digit_room` digits write
+abbrev pub decimal_of : List ℕ → Option ℕ
+decimal_of digits =
+    if nat_lt 0 (length digits) && nat_le (length digits) digit_room && list_all is_ascii_digit digits
+    then Some (digits_value 10 digits) else None
+
+-- the content-length field's number (RFC 9112, section 6.3): 0 if absent, None if it is repeated or no number
+abbrev pub length_of : Count → Option ℕ
+length_of absent = Some 0
+length_of (once value) = decimal_of value
+length_of more = None
+
+-- ==== The head that a text is, if it is one: RFC 9112, sections 2, 3 and 5, in `httparse`'s grammar
+-- The line ends, spaces and colons of a text leave one head that it can be. It is that head if each part is
+-- of its class and the head, printed, is the text.
 
 -- a line without its end, and the end: LF, with or without a CR before it (section 2.2)
 pub data Line : Type 0 where
@@ -17,8 +74,7 @@ pub data Line : Type 0 where
 -- the lines with one byte more at the front of the first
 abbrev pub with_front : ℕ → List Line → List Line
 with_front b [] = []
-with_front b (line [] lf ∷ rest) =
-    (if b == carriage_return then line [] crlf else line (b ∷ []) lf) ∷ rest
+with_front b (line [] lf ∷ rest) = (if b == carriage_return then line [] crlf else line (b ∷ []) lf) ∷ rest
 with_front b (line text end ∷ rest) = line (b ∷ text) end ∷ rest
 
 -- the lines of a text. What follows its last LF is no line

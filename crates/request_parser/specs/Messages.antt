@@ -1,17 +1,41 @@
--- One request: its head and its body (RFC 9112, sections 2.1 and 6), or the first fault of its
--- framing.
-use Rattle.std.specs.Prelude.{ℕ, Bool, true, false, not, List, length, take, drop, nat_lt, ◌==◌, if◌then◌else◌, Result, Ok, Err, codes}
-use Rattle.request_parser.specs.declared.wire_fault.WireFault.{WireFault}
-use Rattle.request_parser.specs.declared.wire_fault.WireFault.TheVariants.{HeadTooLarge, BadHead, TransferEncoding}
-use Rattle.request_parser.specs.declared.wire_fault.WireFault.TheVariants.{ContentLength, BodyTooLarge}
-use Rattle.request_parser.specs.WireLimits.{head_room, field_room, body_room}
-use Rattle.request_parser.specs.declared.message.Front.{Front}
-use Rattle.request_parser.specs.declared.message.Message.{Message}
-use Rattle.request_parser.specs.Readings.{Reading, guard, or_fault, or_met}
-use Rattle.request_parser.specs.Fields.{Count, absent, once, more, count_in, length_of}
-use Rattle.request_parser.specs.Framing.{head_len}
-use Rattle.request_parser.specs.Heads.{HeadParts, head_parts, head_within}
+-- One request: its head and its body, or the fault that is found first.
+use Rattle.std.specs.Prelude.{◌≡◌, Bool, if◌then◌else◌, Option, Some, None, Result, Ok, Err, ⊤, ℕ, true, false, not, List, length, take, drop, nat_lt, ◌==◌, codes}
+use Rattle.request_parser.specs.declared.{wire_fault.WireFault.WireFault, wire_fault.ReadError.ReadError, wire_fault.ReadError.TheVariants.OutOfMemory, wire_fault.ReadError.TheVariants.Fault, wire_fault.WireFault.TheVariants.HeadTooLarge, wire_fault.WireFault.TheVariants.BadHead, wire_fault.WireFault.TheVariants.TransferEncoding, wire_fault.WireFault.TheVariants.ContentLength, wire_fault.WireFault.TheVariants.BodyTooLarge}
+use Rattle.request_parser.specs.declared.{message.Front.Front, message.Message.Message}
+use Rattle.request_parser.specs.{WireLimits.head_room, WireLimits.field_room, WireLimits.body_room, Heads.Count, Heads.absent, Heads.once, Heads.more, Heads.count_in, Heads.length_of, Heads.head_len, Heads.HeadParts, Heads.head_parts, Heads.head_within}
 
+-- what is read, or the first fault
+abbrev pub Reading : Type 0 → Type 0
+Reading A = Result A WireFault
+
+module _ {A : Type 0} where
+  -- the fault if the test holds, else `next`
+  abbrev pub guard : Bool → WireFault → Reading A → Reading A
+  guard test fault next = if test then Err fault else next
+
+  module _ {B : Type 0} where
+    -- what `next` gives for the value, or the fault if there is no value
+    abbrev pub or_fault : Option B → WireFault → (B → Reading A) → Reading A
+    or_fault None fault next = Err fault
+    or_fault (Some value) fault next = next value
+
+    -- what `next` gives for the value that was read, or the fault that was met
+    abbrev pub or_met : Reading B → (B → Reading A) → Reading A
+    or_met (Err fault) next = Err fault
+    or_met (Ok value) next = next value
+
+    -- the result of the code is the reading; `shown` is what a value of the code stands for
+    abbrev pub Gives : (B → A) → Result B WireFault → Reading A → Type 0
+    Gives shown (Ok value) reading = reading ≡ Ok (shown value)
+    Gives shown (Err fault) reading = reading ≡ Err fault
+
+    -- the same of a result that may be `OutOfMemory`; of that nothing is said
+    abbrev pub GivesIfRoom : (B → A) → Result B ReadError → Reading A → Type 0
+    GivesIfRoom shown (Ok value) reading = reading ≡ Ok (shown value)
+    GivesIfRoom shown (Err OutOfMemory) reading = ⊤
+    GivesIfRoom shown (Err (Fault fault)) reading = reading ≡ Err fault
+
+-- ==== One request: its head and its body (RFC 9112, sections 2.1 and 6), or the first fault of its framing
 -- a request: its head's parts and the bytes of its body
 pub record MessageParts : Type 0 where
   pub head : HeadParts

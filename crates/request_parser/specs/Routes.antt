@@ -1,13 +1,33 @@
--- Which resource a request names: RFC 9112, section 3.2.1, and RFC 3986, sections 3.3 and 3.4.
-use Rattle.std.specs.Prelude.{ℕ, Bool, false, not, List, [], ◌∷◌, drop, length, nat_eq, ◌==◌, if◌then◌else◌, codes}
-use Rattle.std.specs.Prelude.{Option, Some, None, option_and_then, option_map, bytes_eq}
-use Rattle.std.specs.Str.{is_utf8}
-use Rattle.std.specs.List.{before_first, list_any, starts_with}
-use Rattle.request_parser.specs.declared.resource.Route.{Route}
-use Rattle.request_parser.specs.declared.resource.Route.TheVariants.{Status, FlightPlans}
-use Rattle.request_parser.specs.declared.resource.Route.TheVariants.{FlightPlan, ClearAreaRequests}
-use Rattle.request_parser.specs.declared.routes.Target.{Target}
+-- Which resource a request names, the methods of resources, and the words of refusals.
+use Rattle.std.specs.Prelude.{ℕ, List, [], ◌∷◌, if◌then◌else◌, Option, Some, None, bytes_eq, codes, Bool, false, not, drop, length, nat_eq, ◌==◌, option_and_then, option_map}
+use Rattle.std.specs.{List.join_by, List.before_first, List.list_any, List.starts_with, Str.is_utf8}
+use Rattle.request_parser.specs.declared.{resource.Action.Action, resource.Route.Route, resource.Route.TheVariants.Status, resource.Route.TheVariants.FlightPlans, resource.Route.TheVariants.FlightPlan, resource.Route.TheVariants.ClearAreaRequests, routes.Target.Target}
+use Rattle.request_parser.specs.declared.resource.Action.TheVariants as action
+use Rattle.request_parser.specs.declared.wire_fault.{WireFault.WireFault, WireFault.TheVariants.HeadTooLarge, WireFault.TheVariants.BadHead, WireFault.TheVariants.TransferEncoding, WireFault.TheVariants.ContentLength, WireFault.TheVariants.BodyTooLarge, WireFault.TheVariants.NoRoute, WireFault.TheVariants.Method, WireFault.TheVariants.BadOperator, WireFault.TheVariants.BadPlanId, WireFault.TheVariants.BadJson, WireFault.TheVariants.BadMember, WireFault.TheVariants.BadVolume, WireFault.TheVariants.TooManyCells, ReadError.ReadError, ReadError.TheVariants.OutOfMemory, ReadError.TheVariants.Fault}
 
+-- what stands beside a word in a table
+abbrev pub value_beside : {A : Type 0} → List (List ℕ × A) → List ℕ → Option A
+value_beside [] word = None
+value_beside (row ∷ rows) word = if bytes_eq word row.0 then Some row.1 else value_beside rows word
+
+-- ==== The methods of the desk's resources: RFC 9110, sections 9.1 and 10.2.1
+-- the methods that a resource has, each with what it does, in the order of `allow`
+abbrev pub methods_of : Route → List (List ℕ × Action)
+methods_of Status = (codes "GET", action.Status) ∷ []
+methods_of FlightPlans = (codes "GET", action.List) ∷ []
+methods_of FlightPlan =
+    (codes "DELETE", action.Delete) ∷ (codes "GET", action.Show) ∷ (codes "PUT", action.Put) ∷ []
+methods_of ClearAreaRequests = (codes "POST", action.Clear) ∷ []
+
+-- what a method does at a resource, if the resource has it
+unfoldable pub action_of : Route → List ℕ → Option Action
+action_of route method = value_beside (methods_of route) method
+
+-- these methods, as the field `allow` of an answer lists them
+abbrev pub allow_text : Route → List ℕ
+allow_text route = join_by (λ (row : List ℕ × Action). row.0) (codes ", ") (methods_of route)
+
+-- ==== Which resource a request names: RFC 9112, section 3.2.1, and RFC 3986, sections 3.3 and 3.4
 -- b'?'
 abbrev pub question_mark : ℕ
 question_mark = 63
@@ -68,3 +88,62 @@ route_in target = if is_utf8 target then route_of (path_of target) else None
 -- the place that the code's `Target` stands for
 abbrev pub target_shown : Target → ResourcePlace
 target_shown target = record { route = target.route; id = target.id.now }
+
+-- ==== The answers' status codes and words for requests that are refused by their faults
+-- the status code (RFC 9110, section 15)
+abbrev pub fault_status : WireFault → ℕ
+fault_status HeadTooLarge = 413
+fault_status BadHead = 400
+fault_status TransferEncoding = 501
+fault_status ContentLength = 400
+fault_status BodyTooLarge = 413
+fault_status NoRoute = 404
+fault_status (Method route) = 405
+fault_status BadOperator = 400
+fault_status BadPlanId = 400
+fault_status BadJson = 400
+fault_status BadMember = 400
+fault_status BadVolume = 400
+fault_status TooManyCells = 400
+
+-- the error code in the answer's body, `{"error":WORD}`
+abbrev pub fault_word : WireFault → List ℕ
+fault_word HeadTooLarge = codes "too_large"
+fault_word BadHead = codes "bad_head"
+fault_word TransferEncoding = codes "transfer_encoding"
+fault_word ContentLength = codes "bad_head"
+fault_word BodyTooLarge = codes "too_large"
+fault_word NoRoute = codes "no_route"
+fault_word (Method route) = codes "method"
+fault_word BadOperator = codes "bad_operator"
+fault_word BadPlanId = codes "bad_plan_id"
+fault_word BadJson = codes "bad_json"
+fault_word BadMember = codes "bad_member"
+fault_word BadVolume = codes "bad_volume"
+fault_word TooManyCells = codes "too_many_cells"
+
+-- the field `allow`, which the answer has if the method is at fault (RFC 9110, section 15.5.6)
+abbrev pub fault_allow : WireFault → Option (List ℕ)
+fault_allow (Method route) = Some (allow_text route)
+fault_allow fault = None
+
+-- the fault as a sentence
+abbrev pub fault_text : WireFault → List ℕ
+fault_text HeadTooLarge = codes "the head is too large"
+fault_text BadHead = codes "the head is malformed, or the body has another length"
+fault_text TransferEncoding = codes "a transfer encoding is not supported"
+fault_text ContentLength = codes "the content length is malformed"
+fault_text BodyTooLarge = codes "the body is too large"
+fault_text NoRoute = codes "no resource has this path"
+fault_text (Method route) = codes "the resource has no such method"
+fault_text BadOperator = codes "the operator's name is missing or malformed"
+fault_text BadPlanId = codes "the id of the plan is not a UUID"
+fault_text BadJson = codes "the body is not JSON"
+fault_text BadMember = codes "a member of the body is missing or has a wrong form"
+fault_text BadVolume = codes "a volume is malformed or out of its limits"
+fault_text TooManyCells = codes "a rectangle takes too many cells"
+
+-- the same for a reader's error
+abbrev pub read_error_text : ReadError → List ℕ
+read_error_text OutOfMemory = codes "out of memory"
+read_error_text (Fault fault) = fault_text fault

@@ -12,16 +12,11 @@
 -- first note). A text that is a start names the second in which its instant lies, one that is an
 -- end the first second at or after its instant.
 use Rattle.std.specs.Prelude.{ℕ, ◌+◌, ◌*◌, ◌<◌, ℤ, pos, ◌+ℤ◌, ◌-ℤ◌, ◌*ℤ◌, ◌≤ℤ◌, int_le, neg_ℤ, ◌≡◌, List, codes, length, take, drop, slice_index, slice_range, Bool, ◌&&◌, ◌||◌, ◌==◌, nat_le, nat_lt, if◌then◌else◌, Option, Some, None, option_and_then}
-use Rattle.std.specs.Char.{is_ascii_digit, to_ascii_uppercase}
-use Rattle.std.specs.Int.{is_in_range}
-use Rattle.std.specs.List.{list_all, list_any, prefix_len}
-use Rattle.std.specs.Str.{byte, str_eq_ignore_ascii_case}
-use Rattle.std.specs.Str.Parse.{digits_value}
+use Rattle.std.specs.{Char.is_ascii_digit, Char.to_ascii_uppercase, Int.is_in_range, List.list_all, List.list_any, List.prefix_len, Str.byte, Str.str_eq_ignore_ascii_case, Str.Parse.digits_value}
 use Rattle.jiff.specs.Types.{DateTime}
 use Rattle.jiff_core.specs.Calendar.{days_in_month, days_from_civil}
 use Rattle.request_parser.specs.WireLimits.{time_room}
-use Rattle.request_parser.specs.declared.times.CivilTime.{CivilTime}
-use Rattle.request_parser.specs.declared.times.WrittenTime.{WrittenTime}
+use Rattle.request_parser.specs.declared.times.{CivilTime.CivilTime, WrittenTime.WrittenTime}
 
 infixl 10 ◌>>=◌
 abbrev ◌>>=◌ : {A B : Type 0} → Option A → (A → Option B) → Option B
@@ -60,8 +55,7 @@ civil_of text = do
 abbrev pub digit_count : List ℕ → ℕ
 digit_count text = prefix_len is_ascii_digit text
 
--- the length of the `[time-secfrac]` with which a text begins: 0 if there is no point. None if no digit
--- follows the point
+-- the length of the `[time-secfrac]` that begins a text: 0 if there is no point, None if no digit follows it
 unfoldable pub secfrac_len : List ℕ → Option ℕ
 secfrac_len text =
     if slice_index text 0 == byte "."
@@ -98,8 +92,7 @@ numoffset_of text =
 
 -- a `time-offset`, in seconds
 unfoldable pub offset_of : List ℕ → Option ℤ
-offset_of text =
-    if str_eq_ignore_ascii_case text (codes "Z") then Some (pos 0) else numoffset_of text
+offset_of text = if str_eq_ignore_ascii_case text (codes "Z") then Some (pos 0) else numoffset_of text
 
 -- the time of `civil`, a date and time of day, with the `[time-secfrac] time-offset` that `rest` is
 unfoldable pub time_with : CivilTime → List ℕ → Option WrittenTime
@@ -158,8 +151,7 @@ pub record IsShownBy (w : CivilTime) (shown : DateTime) : Type 0 where
 -- the seconds of which `jiff` has instants, so that each instant has a date at every offset: from
 -- -9999-01-02T01:59:59Z to 9999-12-30T22:00:00Z
 abbrev pub is_instant : ℤ → Bool
-is_instant second =
-    int_le (neg_ℤ (pos 377_705_023_201)) second && int_le second (pos 253_402_207_200)
+is_instant second = int_le (neg_ℤ (pos 377_705_023_201)) second && int_le second (pos 253_402_207_200)
 
 -- seconds since 1970-01-01T00:00:00Z: an offset is local time less UTC (section 4.2)
 abbrev pub utc_second : WrittenTime → ℤ
@@ -167,8 +159,7 @@ utc_second t = civil_second t.civil -ℤ t.offset
 
 -- the second in which the time lies, if there are such a date and time
 unfoldable pub second_of : WrittenTime → Option ℤ
-second_of t =
-    if is_civil t.civil && is_instant (utc_second t) then Some (utc_second t) else None
+second_of t = if is_civil t.civil && is_instant (utc_second t) then Some (utc_second t) else None
 
 -- the second that a start names: its fraction is dropped
 unfoldable pub start_of : List ℕ → Option ℤ

@@ -1,5 +1,4 @@
--- The desk's own limits on requests, each in this one place. RFC 9112, sections 2.2, 3, 5 and 6,
--- leaves such limits to the recipient.
+-- The desk's own limits on requests, each here alone: RFC 9112, sections 2.2, 3, 5 and 6, leaves them to it.
 use Rattle.std.specs.Prelude.{ℕ}
 
 -- the most bytes that a head may have

@@ -1,9 +1,7 @@
 //! Addresses: the action, the operator and the plan id of a request, from its head.
 
 ghost use Rattle.std.specs.Prelude.{◌≡◌, codes};
-ghost use Rattle.request_parser.specs.Addresses.{address_of, address_shown, operator_of};
-ghost use Rattle.request_parser.specs.Fields.{count_in};
-ghost use Rattle.request_parser.specs.Readings.{Gives};
+ghost use Rattle.request_parser.specs.{Requests.address_of, Requests.address_shown, Requests.operator_of, Heads.count_in, Messages.Gives};
 
 use crate::fields::Occurrence;
 use crate::head::Head;
@@ -26,7 +24,7 @@ pub struct Address<'t> {
 /// # Errors
 ///
 /// The first of `NoRoute`, `Method` and `BadOperator` that applies.
-#[tactic(auto, unfolding(crate::specs::Addresses::address_of))]
+#[tactic(auto, unfolding(crate::specs::Requests::address_of))]
 pub fn read_address<'t>(head: &Head<'t>) -> Result<Address<'t>, WireFault>
     ensures { Gives address_shown result (address_of head.now) }
 {

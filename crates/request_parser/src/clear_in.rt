@@ -1,8 +1,8 @@
 //! Requests to clear an area, from the JSON of their bodies.
 
 ghost use Rattle.serde_json.specs.View.{view};
-ghost use Rattle.request_parser.specs.Readings.{GivesIfRoom};
-ghost use Rattle.request_parser.specs.ClearIn as spec;
+ghost use Rattle.request_parser.specs.Messages.{GivesIfRoom};
+ghost use Rattle.request_parser.specs.Requests as spec;
 
 use crate::json_in::read_json;
 use crate::volume_in::read_volume;
@@ -17,7 +17,7 @@ use volume4d::Volume;
 ///
 /// `OutOfMemory`, or the first of `BadJson`, `BadMember`, `BadVolume` and `TooManyCells` that
 /// applies.
-#[tactic(auto, unfolding(crate::specs::ClearIn::clear_in))]
+#[tactic(auto, unfolding(crate::specs::Requests::clear_in))]
 pub fn read_clear(alloc: Global, body: &[u8]) -> Result<Volume, ReadError>
     ensures { GivesIfRoom (λ volume. volume) result (spec.clear_in body.now) }
 {
@@ -26,7 +26,7 @@ pub fn read_clear(alloc: Global, body: &[u8]) -> Result<Volume, ReadError>
 }
 
 // Reads the volume of a request to clear from `value`, the JSON of its body: the member `extent`, an object.
-#[tactic(auto, unfolding(crate::specs::ClearIn::clear_of))]
+#[tactic(auto, unfolding(crate::specs::Requests::clear_of))]
 fn read_extent(alloc: Global, value: &Value) -> Result<Volume, ReadError>
     ensures { GivesIfRoom (λ volume. volume) result (spec.clear_of (view value.now)) }
 {

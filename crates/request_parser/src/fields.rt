@@ -2,7 +2,7 @@
 
 ghost use Rattle.std.specs.Prelude.{◌≡◌, length, map, All};
 ghost use Rattle.httparse.specs.Spans.{IsHeaderWithin, header_bytes};
-ghost use Rattle.request_parser.specs.Fields.{count_in, count_shown, decimal_of};
+ghost use Rattle.request_parser.specs.Heads.{count_in, count_shown, decimal_of};
 
 use httparse::spans::HeaderSpan;
 

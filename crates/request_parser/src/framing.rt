@@ -1,8 +1,7 @@
 //! Framing: where a request's head ends in its bytes.
 
 ghost use Rattle.std.specs.Prelude.{◌≡◌, ◌≤◌, length, IfSome};
-ghost use Rattle.request_parser.specs.Framing.{ends_head, head_len};
-ghost use Rattle.request_parser.specs.WireLimits.{head_room};
+ghost use Rattle.request_parser.specs.{Heads.ends_head, Heads.head_len, WireLimits.head_room};
 
 /// The maximum length of a head, in bytes.
 pub const HEAD_ROOM: usize = 16_384;

@@ -2,9 +2,8 @@
 
 ghost use Rattle.std.specs.Prelude.{◌≡◌, option_map};
 ghost use Rattle.httparse.specs.Spans.{IsRequestWithin};
-ghost use Rattle.request_parser.specs.Fields.{count_in, count_shown};
+ghost use Rattle.request_parser.specs.Heads.{count_in, count_shown, HeadParts, head_parts, head_within, parts_at};
 ghost use Rattle.request_parser.specs.WireLimits.{field_room};
-ghost use Rattle.request_parser.specs.Heads.{HeadParts, head_parts, head_within, parts_at};
 
 use crate::fields::{Occurrence, find_field};
 use httparse::Status;

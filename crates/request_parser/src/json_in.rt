@@ -1,16 +1,15 @@
 //! The members of JSON values, and bodies as JSON values.
 ghost use Rattle.std.specs.Prelude.{◌≡◌, option_map};
 ghost use Rattle.serde_json.specs.View.{view, items_view};
-ghost use Rattle.request_parser.specs.Readings.{GivesIfRoom};
-ghost use Rattle.request_parser.specs.JsonIn as spec;
-ghost use Rattle.request_parser.specs.JsonIn.{body_value};
+ghost use Rattle.request_parser.specs.{Messages.GivesIfRoom, Requests.body_value};
+ghost use Rattle.request_parser.specs.Requests as spec;
 
 use crate::wire_fault::{ReadError, WireFault};
 use serde_json::Value;
 use std::alloc::Global;
 
 /// Parses `body` as JSON. `BadJson` if it is not JSON, or not UTF-8; `OutOfMemory` if memory runs out.
-#[tactic(auto, unfolding(crate::specs::JsonIn::body_value))]
+#[tactic(auto, unfolding(crate::specs::Requests::body_value))]
 pub fn read_json(alloc: Global, body: &[u8]) -> Result<Value, ReadError>
     ensures { GivesIfRoom view result (body_value body.now) }
 {

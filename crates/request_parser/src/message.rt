@@ -1,10 +1,8 @@
 //! Messages: one request, split into its head and its body.
 
 ghost use Rattle.std.specs.Prelude.{◌≡◌, codes};
-ghost use Rattle.request_parser.specs.Readings.{Gives};
-ghost use Rattle.request_parser.specs.Fields.{count_in, length_of};
-ghost use Rattle.request_parser.specs.Messages.{body_len, front_in, front_shown, message_in};
-ghost use Rattle.request_parser.specs.Messages.{message_read, unended};
+ghost use Rattle.request_parser.specs.Messages.{Gives, body_len, front_in, front_shown, message_in, message_read, unended};
+ghost use Rattle.request_parser.specs.Heads.{count_in, length_of};
 
 use crate::fields::{Occurrence, read_decimal};
 use crate::framing::{HEAD_ROOM, head_length};

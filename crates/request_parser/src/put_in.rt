@@ -1,9 +1,8 @@
 //! Requests to put a plan, from the JSON of their bodies.
 ghost use Rattle.std.specs.Prelude.{◌≡◌, option_and_then};
 ghost use Rattle.serde_json.specs.View.{view};
-ghost use Rattle.request_parser.specs.Readings.{GivesIfRoom};
-ghost use Rattle.request_parser.specs.JsonIn.{integer_in};
-ghost use Rattle.request_parser.specs.PutIn as spec;
+ghost use Rattle.request_parser.specs.{Messages.GivesIfRoom, Requests.integer_in};
+ghost use Rattle.request_parser.specs.Requests as spec;
 
 use crate::json_in::{array_at, non_null_at, read_json, text_at};
 use crate::volume_in::read_area;
@@ -21,7 +20,7 @@ use std::alloc::Global;
 ///
 /// `OutOfMemory`, or the first of `BadJson`, `BadMember`, `BadVolume` and `TooManyCells` that
 /// applies.
-#[tactic(auto, unfolding(crate::specs::PutIn::put_in))]
+#[tactic(auto, unfolding(crate::specs::Requests::put_in))]
 pub fn read_put(alloc: Global, id: PlanId, body: &[u8]) -> Result<PutCall, ReadError>
     ensures { GivesIfRoom (λ call. call) result (spec.put_in id body.now) }
 {
@@ -31,7 +30,7 @@ pub fn read_put(alloc: Global, id: PlanId, body: &[u8]) -> Result<PutCall, ReadE
 
 // Reads a PUT of the plan `id` from `value`, the JSON of its body. The order of the reads is that in which
 // faults are reported: those of the volumes come last.
-#[tactic(auto, unfolding(crate::specs::PutIn::put_of))]
+#[tactic(auto, unfolding(crate::specs::Requests::put_of))]
 fn read_members(alloc: Global, id: PlanId, value: &Value) -> Result<PutCall, ReadError>
     ensures { GivesIfRoom (λ call. call) result (spec.put_of id (view value.now)) }
 {
@@ -55,7 +54,7 @@ fn read_members(alloc: Global, id: PlanId, value: &Value) -> Result<PutCall, Rea
 
 // The priority of `plan`, a `flight_plan`: 0 if `astm_f3548_21`, or its `priority`, is missing or null.
 // `BadMember` if the first is not an object, or the second no priority.
-#[tactic(auto, unfolding(crate::specs::PutIn::priority_of))]
+#[tactic(auto, unfolding(crate::specs::Requests::priority_of))]
 fn read_priority(plan: &Value) -> Result<u32, WireFault>
     ensures { result ≡ spec.priority_of (view plan.now) }
 {
@@ -101,7 +100,7 @@ fn read_aircraft(value: &Value) -> Option<Aircraft>
 }
 
 // Parses the word of an execution style in InterUSS flight_planning v1. None for every other word.
-#[tactic(auto, unfolding(crate::specs::PutIn::style_of))]
+#[tactic(auto, unfolding(crate::specs::Requests::style_of))]
 fn parse_style(word: &str) -> Option<Style>
     ensures { result ≡ spec.style_of word.now }
 {
@@ -114,7 +113,7 @@ fn parse_style(word: &str) -> Option<Style>
 }
 
 // Parses the word of a usage state in InterUSS flight_planning v1. None for every other word.
-#[tactic(auto, unfolding(crate::specs::PutIn::usage_of))]
+#[tactic(auto, unfolding(crate::specs::Requests::usage_of))]
 fn parse_usage(word: &str) -> Option<Usage>
     ensures { result ≡ spec.usage_of word.now }
 {
@@ -127,7 +126,7 @@ fn parse_usage(word: &str) -> Option<Usage>
 }
 
 // Parses the word of an aircraft state in InterUSS flight_planning v1. None for every other word.
-#[tactic(auto, unfolding(crate::specs::PutIn::aircraft_of))]
+#[tactic(auto, unfolding(crate::specs::Requests::aircraft_of))]
 fn parse_aircraft(word: &str) -> Option<Aircraft>
     ensures { result ≡ spec.aircraft_of word.now }
 {

@@ -1,10 +1,7 @@
 //! Requests: from bytes to the operator and its call.
 
 ghost use Rattle.std.specs.Prelude.{◌≡◌};
-ghost use Rattle.request_parser.specs.Addresses.{address_shown};
-ghost use Rattle.request_parser.specs.Readings.{GivesIfRoom};
-ghost use Rattle.request_parser.specs.Messages.{message_shown};
-ghost use Rattle.request_parser.specs.Requests.{asked, asked_at, asked_by, id_of};
+ghost use Rattle.request_parser.specs.{Requests.address_shown, Requests.asked, Requests.asked_at, Requests.asked_by, Requests.id_of, Messages.GivesIfRoom, Messages.message_shown};
 
 use crate::address::{Address, read_address};
 use crate::clear_in::read_clear;

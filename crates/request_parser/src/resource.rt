@@ -1,7 +1,7 @@
 //! The resources of the interface, with their methods.
 
 ghost use Rattle.std.specs.Prelude.{◌≡◌};
-ghost use Rattle.request_parser.specs.Resources as spec;
+ghost use Rattle.request_parser.specs.Routes as spec;
 ghost use Rattle.request_parser.specs.declared.resource.Route.TheVariants as route;
 
 /// A resource of the interface, by its path.
@@ -36,7 +36,7 @@ pub enum Action {
 
 impl Route {
     /// The action of `method` at this resource. None if the resource has no such method.
-    #[tactic(auto, unfolding(crate::specs::Resources::action_of))]
+    #[tactic(auto, unfolding(crate::specs::Routes::action_of))]
     pub fn action(self, method: &[u8]) -> Option<Action>
         ensures { result ≡ spec.action_of self method.now }
     {
@@ -61,7 +61,7 @@ impl Route {
 }
 
 // The action of `method` at a flight plan. None if a flight plan has no such method.
-#[tactic(auto, unfolding(crate::specs::Resources::action_of))]
+#[tactic(auto, unfolding(crate::specs::Routes::action_of))]
 fn plan_action(method: &[u8]) -> Option<Action>
     ensures { result ≡ spec.action_of route.FlightPlan method.now }
 {

@@ -1,8 +1,7 @@
 //! Times of RFC 3339, parsed to Unix seconds.
 ghost use Rattle.std.specs.Prelude.{◌≡◌, ◌+◌, ◌≤◌, ◌<◌, ◌^◌, length, IsTrue, IfSome, is_some, option_and_then};
 ghost use Rattle.request_parser.specs.Times as spec;
-ghost use Rattle.request_parser.specs.Times.{IsInDigits, IsOffset, IsWritten, IsShownBy};
-ghost use Rattle.request_parser.specs.Times.{is_civil, is_instant};
+ghost use Rattle.request_parser.specs.Times.{IsInDigits, IsOffset, IsWritten, IsShownBy, is_civil, is_instant};
 
 use jiff::civil::DateTime;
 use jiff::tz::Offset;

@@ -1,15 +1,11 @@
 //! The volumes of requests, from their JSON.
 ghost use Rattle.std.specs.Prelude.{◌≡◌, option_map};
-ghost use Rattle.std.specs.Int.{is_in_range};
-ghost use Rattle.std.specs.Result.{result_ok};
-ghost use Rattle.s2_cover.specs.Rectangles.{rect_or_fault};
-ghost use Rattle.volume4d.specs.VolumeLimits.{max_volumes};
-ghost use Rattle.volume4d.specs.Windows.{window_or_fault};
-ghost use Rattle.volume4d.specs.Footprint.{shape_of};
+ghost use Rattle.std.specs.{Int.is_in_range, Result.result_ok};
+ghost use Rattle.s2_cover.specs.Covers.{rect_or_fault};
+ghost use Rattle.volume4d.specs.{VolumeLimits.max_volumes, Volume.window_or_fault, Footprint.shape_of};
 ghost use Rattle.serde_json.specs.View.{view, items_view};
-ghost use Rattle.request_parser.specs.Readings.{GivesIfRoom};
-ghost use Rattle.request_parser.specs.JsonIn.{each};
-ghost use Rattle.request_parser.specs.VolumeIn as spec;
+ghost use Rattle.request_parser.specs.{Messages.GivesIfRoom, Requests.each};
+ghost use Rattle.request_parser.specs.Requests as spec;
 
 use crate::json_in::{integer_at, non_null_at, text_at};
 use crate::times::{parse_end, parse_start};
@@ -58,7 +54,7 @@ fn read_volumes(alloc: Global, items: &[Value]) -> Result<Vec<Volume>, ReadError
 /// # Errors
 ///
 /// `OutOfMemory`, or the first of `BadVolume` and `TooManyCells` that applies.
-#[tactic(auto, unfolding(crate::specs::VolumeIn::volume_of))]
+#[tactic(auto, unfolding(crate::specs::Requests::volume_of))]
 pub fn read_volume(alloc: Global, value: &Value) -> Result<Volume, ReadError>
     ensures { GivesIfRoom (λ volume. volume) result (spec.volume_of (view value.now)) }
 {
@@ -70,7 +66,7 @@ pub fn read_volume(alloc: Global, value: &Value) -> Result<Volume, ReadError>
 
 // Makes a volume of a footprint and a window. `BadVolume` if a cell list does not have 1 to 64 cells;
 // `TooManyCells` if the cover of a rectangle has more than 1,024.
-#[tactic(auto, unfolding(crate::specs::VolumeIn::volume_over))]
+#[tactic(auto, unfolding(crate::specs::Requests::volume_over))]
 fn make_volume(alloc: Global, footprint: Footprint, window: Window) -> Result<Volume, ReadError>
     ensures { GivesIfRoom (λ volume. volume) result (spec.volume_over (shape_of footprint) window) }
 {
@@ -84,7 +80,7 @@ fn make_volume(alloc: Global, footprint: Footprint, window: Window) -> Result<Vo
 
 // Reads the footprint from `shape`, the `volume` of a volume: either its `cells` or its `rectangle`, of which
 // the other one is missing or null. `BadVolume` if both or neither are there.
-#[tactic(auto, unfolding(crate::specs::VolumeIn::footprint_of))]
+#[tactic(auto, unfolding(crate::specs::Requests::footprint_of))]
 fn read_footprint(alloc: Global, shape: &Value) -> Result<Footprint, ReadError>
     ensures { GivesIfRoom shape_of result (spec.footprint_of (view shape.now)) }
 {
@@ -96,7 +92,7 @@ fn read_footprint(alloc: Global, shape: &Value) -> Result<Footprint, ReadError>
 }
 
 // Reads `list`, the value of `cells`: an array of S2 tokens.
-#[tactic(auto, unfolding(crate::specs::VolumeIn::cells_of))]
+#[tactic(auto, unfolding(crate::specs::Requests::cells_of))]
 fn read_cells(alloc: Global, list: &Value) -> Result<Vec<CellId>, ReadError>
     ensures { GivesIfRoom (λ v. v.items) result (spec.cells_of (view list.now)) }
 {
@@ -105,7 +101,7 @@ fn read_cells(alloc: Global, list: &Value) -> Result<Vec<CellId>, ReadError>
 }
 
 // Reads `value`, the value of `rectangle`: a rectangle of the S2 grid.
-#[tactic(auto, unfolding(crate::specs::VolumeIn::rectangle_of))]
+#[tactic(auto, unfolding(crate::specs::Requests::rectangle_of))]
 fn read_rectangle(value: &Value) -> Result<Rect, WireFault>
     ensures { result ≡ spec.rectangle_of (view value.now) }
 {
@@ -176,7 +172,7 @@ fn read_cell(value: &Value) -> Result<CellId, WireFault>
 }
 
 // Reads the altitudes of a volume from `shape`, its member `volume`, and its times from `value`, the volume.
-#[tactic(auto, unfolding(crate::specs::VolumeIn::window_of))]
+#[tactic(auto, unfolding(crate::specs::Requests::window_of))]
 fn read_window(value: &Value, shape: &Value) -> Result<Window, WireFault>
     ensures { result ≡ spec.window_of (view value.now) (view shape.now) }
 {
@@ -220,7 +216,7 @@ fn time_at<'a>(value: &'a Value, key: &str) -> Option<&'a str>
 }
 
 // The text of `value`, a time: its own member `value`, if its `format` is `RFC3339`. The text is not parsed.
-#[tactic(auto, unfolding(crate::specs::VolumeIn::time_text))]
+#[tactic(auto, unfolding(crate::specs::Requests::time_text))]
 fn time_text<'a>(value: &'a Value) -> Option<&'a str>
     ensures { option_map (λ s. s.now) result ≡ spec.time_text (view value.now) }
 {

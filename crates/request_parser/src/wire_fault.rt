@@ -1,7 +1,7 @@
 //! Why a request is refused before it is parsed to a call.
 
 ghost use Rattle.std.specs.Prelude.{◌≡◌, option_map};
-ghost use Rattle.request_parser.specs.FaultWords as spec;
+ghost use Rattle.request_parser.specs.Routes as spec;
 ghost use Rattle.request_parser.specs.declared.wire_fault.ReadError.TheVariants.{Fault, OutOfMemory};
 
 use crate::resource::Route;

@@ -6,7 +6,7 @@ use Rattle.std.specs.declared.cmp.Ordering.{Ordering}
 use Rattle.std.specs.Ordering.{is_lt}
 use Rattle.std.specs.Cmp.{IsTotalOrder}
 use Rattle.desk_store.proofs.lemmas.Order.{all_weaker}
-use Rattle.row_codec.specs.ContentRows.{is_below_first}
+use Rattle.row_codec.specs.Tables.{is_below_first}
 
 is_below : (n : Ordering) → is_lt n ≡ true → n ≡ Less
 is_below Less e = refl

@@ -12,7 +12,7 @@ use Rattle.desk_rules.specs.Limits.{max_plans}
 use Rattle.desk_rules.specs.declared.plan.PlanRow.{PlanRow}
 use Rattle.desk_store.specs.World.{Filed, text_cmp, filed_cmp, is_by, rows_by}
 use Rattle.desk_store.proofs.lemmas.Order.{is_equal, all_weaker}
-use Rattle.row_codec.specs.Counting.{IsMostOf, operator_count}
+use Rattle.row_codec.specs.SpanBounds.{IsMostOf, operator_count}
 use Rattle.row_codec.proofs.lemmas.Share.{Above, above_on, count_is, dropped, not_by, others_left, rest_of, rest_sorted}
 
 -- ---- the first plans are all of their operator's

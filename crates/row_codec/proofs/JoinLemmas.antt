@@ -8,12 +8,10 @@ use Rattle.sqlite_value.specs.Order.{Row}
 use Rattle.volume4d.specs.Volume.{Block, is_area}
 use Rattle.desk_rules.specs.declared.plan.PlanRow.{PlanRow}
 use Rattle.desk_sql.specs.Rows.{joined}
-use Rattle.desk_store.specs.World.{Filed}
+use Rattle.desk_store.specs.World.{Filed, IsId, IsValidVolume}
 use Rattle.row_codec.specs.declared.values.PlanHead.{PlanHead}
 use Rattle.row_codec.specs.Tables.{row_of_plan, row_of_volume}
-use Rattle.desk_store.specs.Content.{IsId, IsValidVolume}
-use Rattle.row_codec.specs.RowsRead.{IsVolumeAt, IsHead, is_later, joined_from, listing_rows}
-use Rattle.row_codec.specs.Gathering.{plan_with, closed_plans, IsPlanUnderWay, Leads}
+use Rattle.row_codec.specs.RowsRead.{IsVolumeAt, IsHead, is_later, joined_from, listing_rows, plan_with, closed_plans, IsPlanUnderWay, Leads}
 use Rattle.row_codec.proofs.lemmas.Order.{ArePlans}
 
 no_area : (area : List Block) → IsTrue (is_area area) → area ≡ [] → ⊥

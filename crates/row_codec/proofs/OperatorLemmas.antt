@@ -4,9 +4,7 @@ use Rattle.std.specs.List.{AllByRecursion}
 use Rattle.sqlite_value.specs.Order.{Row}
 use Rattle.desk_store.specs.World.{Listed}
 use Rattle.desk_store.proofs.lemmas.Order.{all_append}
-use Rattle.row_codec.specs.Tables.{row_of_operator}
-use Rattle.row_codec.specs.Records.{IsOperator}
-use Rattle.row_codec.specs.ContentRows.{AreOperatorRows}
+use Rattle.row_codec.specs.Tables.{row_of_operator, IsOperator, AreOperatorRows}
 
 -- these operators were read, and these rows are left
 pub record AreListed (rows : List Row) (ls : List Listed) (left : List Row) : Type 0 where

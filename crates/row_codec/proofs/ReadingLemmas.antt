@@ -4,18 +4,15 @@ use Rattle.std.specs.List.{AllByRecursion, AllZip}
 use Rattle.sqlite_value.specs.declared.value.Value.{Value}
 use Rattle.sqlite_value.specs.declared.value.Value.TheVariants.{Int, Text, Blob}
 use Rattle.sqlite_value.specs.Order.{Row, column}
-use Rattle.volume4d.specs.FootprintBytes.{footprint_bytes, HasValidParts, AreBytesOf}
+use Rattle.volume4d.specs.Footprint.{footprint_bytes, HasValidParts, AreBytesOf}
 use Rattle.volume4d.specs.VolumeLimits.{within_altitudes, within_times, within_length}
-use Rattle.volume4d.specs.Shape.{Shape}
-use Rattle.volume4d.specs.Volume.{Block}
-use Rattle.volume4d.specs.Windows.{WindowParts, window_or_fault}
+use Rattle.volume4d.specs.Volume.{Shape, Block, WindowParts, window_or_fault, is_area}
 use Rattle.volume4d.specs.declared.window.WindowFault.{WindowFault}
 use Rattle.volume4d.specs.declared.window.WindowFault.TheVariants.{Altitude, Time, TooLong}
 use Rattle.uuid.specs.Text.{parsed}
 use Rattle.uuid.proofs.RoundTrips.{parses_hyphenated}
-use Rattle.volume4d.specs.Volume.{is_area}
 use Rattle.row_codec.specs.Tables.{id_text}
-use Rattle.desk_store.specs.Content.{IsId, IsValidVolume}
+use Rattle.desk_store.specs.World.{IsId, IsValidVolume}
 use Rattle.row_codec.specs.RowsRead.{IsVolumeAt}
 
 pub window_is : (e w : WindowParts) → ◌≡◌ {A = Result WindowParts WindowFault} (Ok w)

@@ -5,17 +5,14 @@ use Rattle.std.proofs.lemmas.List.{append-nil, take_more}
 use Rattle.std.proofs.lemmas.List.Elements.{recursion_from_All}
 use Rattle.sqlite_value.specs.Order.{Row}
 use Rattle.s2_cover.specs.declared.spans.Span.{Span}
-use Rattle.s2_cover.specs.Ranges.{IsRanges}
+use Rattle.s2_cover.specs.Covers.{IsRanges}
 use Rattle.volume4d.specs.declared.slab.Slab.{Slab}
-use Rattle.volume4d.specs.FootprintBytes.{footprint_bytes}
-use Rattle.volume4d.specs.Shape.{shape_positions}
-use Rattle.volume4d.specs.Slab.{span_of, slab_window}
-use Rattle.volume4d.specs.Slabs.{AreVolumeSlabs}
-use Rattle.volume4d.specs.Volume.{Block}
+use Rattle.volume4d.specs.Footprint.{footprint_bytes}
+use Rattle.volume4d.specs.Volume.{shape_positions, Block}
+use Rattle.volume4d.specs.Slab.{span_of, slab_window, AreVolumeSlabs}
 use Rattle.desk_sql.specs.Rows as sql
 use Rattle.desk_store.specs.World.{Filed}
-use Rattle.row_codec.specs.Tables.{id_text, rows_from, row_of_volume, volume_rows_from, canon_bytes, row_of_cover, row_of_span, AreSpanRowsFrom}
-use Rattle.row_codec.specs.PlanRows.{volume_record, slab_record}
+use Rattle.row_codec.specs.Tables.{id_text, rows_from, row_of_volume, volume_rows_from, canon_bytes, row_of_cover, row_of_span, AreSpanRowsFrom, volume_record, slab_record}
 
 -- two lists that are shown alike are alike at each place
 pub at_both : {A B C : Type 0} (f : A → C) (g : B → C) (xs : List A) (ys : List B) (i : ℕ) (a : A)

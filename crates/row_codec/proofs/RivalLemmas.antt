@@ -3,7 +3,7 @@ use Rattle.std.proofs.Common.{◌+◌, List, [], ◌∷◌, ◌++◌}
 use Rattle.sqlite_value.specs.Order.{Row}
 use Rattle.volume4d.specs.declared.slab.Held.{Held}
 use Rattle.desk_store.specs.World.{held}
-use Rattle.row_codec.specs.RivalRows.{IsHeldIn, HasTakenHelds}
+use Rattle.row_codec.specs.RowsRead.{IsHeldIn, HasTakenHelds}
 
 pub one_taken : (helds : List Held) (rows : List Row) (held : Held) (row : Row)
     → HasTakenHelds helds rows

@@ -1,19 +1,20 @@
--- How long the spans of plans are.
+-- How long the spans of plans are, and how many there are.
 use Rattle.std.specs.Prelude.{◌≡◌, ℕ, ◌+◌, ◌≤◌, ◌⊎◌, ◌==◌, ◌&&◌, nat_le, ℤ, pos, Bool, false, List, Option, Some, None, MatchBool, IfSome, IsTrue, ⊤, slice_get, length, ◌<◌, ◌*◌, ◌^◌}
-use Rattle.std.specs.List.{AllByRecursion, list_any}
+use Rattle.std.specs.List.{AllByRecursion, list_any, filter, sum_by}
 use Rattle.sqlite_value.specs.declared.value.Value.TheVariants.{Int}
 use Rattle.sqlite_value.specs.Order.{Row, column}
 use Rattle.s2_cover.specs.declared.spans.Span.{Span}
-use Rattle.s2_cover.specs.Ranges.{IsRanges}
+use Rattle.s2_cover.specs.Covers.{IsRanges}
 use Rattle.volume4d.specs.declared.slab.Slab.{Slab}
-use Rattle.volume4d.specs.Shape.{shape_positions}
-use Rattle.volume4d.specs.Volume.{Block}
+use Rattle.volume4d.specs.Volume.{shape_positions, Block}
 use Rattle.desk_rules.specs.declared.plan.PlanRow.{PlanRow}
-use Rattle.desk_rules.specs.Plan.{is_live}
-use Rattle.desk_store.specs.World.{Filed, World}
-use Rattle.desk_store.specs.declared.change.Change.{Change}
-use Rattle.desk_store.specs.declared.change.Change.TheVariants.{Enrol, Put, Close, Clear}
-use Rattle.row_codec.specs.declared.span_bounds.SpanBounds.{SpanBounds}
+use Rattle.desk_rules.specs.Outcome.{is_live, row_cells, row_spans}
+use Rattle.desk_store.specs.World.{Filed, World, is_by}
+use Rattle.desk_store.specs.declared.change.{Change.Change, Change.TheVariants.Enrol, Change.TheVariants.Put, Change.TheVariants.Close, Change.TheVariants.Clear}
+use Rattle.live_index.specs.Live.{AreKeptOnce}
+use Rattle.operator_index.specs.Roll.{IsIndexOf}
+use Rattle.row_codec.specs.declared.{span_bounds.SpanBounds.SpanBounds, known.MemoryIndex.MemoryIndex, counting.Counted.Counted, counting.Counted.TheVariants.Spans, counting.Counted.TheVariants.Cells}
+use Rattle.row_codec.specs.Tables.{AreSpanRows}
 
 -- the last leaf of a span is at most so many positions after its first
 abbrev pub IsBoundedBy : ℕ → Span → Type 0
@@ -91,7 +92,6 @@ BringsKnown span_bounds (Close operator id) = ⊤
 BringsKnown span_bounds (Clear operator ids) = ⊤
 
 -- ---- rows of spans
-
 -- if two numbers are leaf positions, the bounds hold for the span between them
 abbrev pub IsKnownBetween : SpanBounds → ℤ → ℤ → Type 0
 IsKnownBetween span_bounds first last =
@@ -102,9 +102,38 @@ abbrev pub IsKnownRow : SpanBounds → Row → Type 0
 IsKnownRow span_bounds row = (a b : ℕ) → column row 3 ≡ Int (pos a) → column row 4 ≡ Int (pos b)
     → IsKnown span_bounds (record { first = a; last = b })
 
--- these columns are leaf positions, and the bounds hold for the span between them
-pub record HasKnownSpan (span_bounds : SpanBounds) (row : Row) : Type 0 where
-  pub span : Span
-  pub begins : column row 3 ≡ Int (pos span.first)
-  pub ends : column row 4 ≡ Int (pos span.last)
-  pub known : IsKnown span_bounds span
+-- the indexes in memory are those of `w`: the span bounds hold, and both indexes have what `w` has
+pub record Knows (known : MemoryIndex) (w : World) : Type 0 where
+  pub span_bounds : Bounds known.span_bounds w
+  pub live : AreKeptOnce known.live w
+  pub roll : IsIndexOf w known.roll
+
+-- ==== How many rows of spans a content has, and how many spans the operator that has most, and how many
+-- cells the one that has most of those
+
+-- these plans have `count` rows of spans
+pub record HaveSpanRows (ps : List Filed) (count : ℕ) : Type 0 where
+  pub rows : List Row
+  pub are : AreSpanRows ps rows
+  pub counted : count ≡ length rows
+
+-- what is counted of a plan: spans, of which a closed one takes none, or cells, which it keeps
+abbrev pub count_of : Counted → PlanRow → ℕ
+count_of Spans = row_spans
+count_of Cells = row_cells
+
+module _ (count : PlanRow → ℕ) where
+  -- what the plans of an operator have together
+  abbrev pub operator_count : List ℕ → List Filed → ℕ
+  operator_count operator ps = sum_by (λ p. count p.row) (filter (is_by operator) ps)
+
+  -- `most` is the greatest `operator_count`: no operator has more, and one has as much unless `most` is 0
+  pub record IsMostOf (ps : List Filed) (most : ℕ) : Type 0 where
+    pub none_more : (operator : List ℕ) → operator_count operator ps ≤ most
+    pub one : (most ≡ 0) ⊎ ((operator : List ℕ) × (operator_count operator ps ≡ most))
+
+abbrev pub IsMostSpans : List Filed → ℕ → Type 0
+IsMostSpans ps most = IsMostOf row_spans ps most
+
+abbrev pub IsMostCells : List Filed → ℕ → Type 0
+IsMostCells ps most = IsMostOf row_cells ps most

@@ -1,10 +1,8 @@
 //! The canonical covers of volumes, as bytes.
 
 ghost use Rattle.std.specs.Prelude.{◌≡◌, IfOk, map};
-ghost use Rattle.std.specs.List.{flat_map};
-ghost use Rattle.std.specs.Int.{w64, to_be_bytes};
-ghost use Rattle.row_codec.specs.Tables.{canon_bytes};
-ghost use Rattle.row_codec.specs.PlanRows.{AreCanonOf};
+ghost use Rattle.std.specs.{List.flat_map, Int.w64, Int.to_be_bytes};
+ghost use Rattle.row_codec.specs.Tables.{canon_bytes, AreCanonOf};
 
 use s2_cellid::CellId;
 use s2_cover::laws::{canonical_list_is, one_canonical_list};

@@ -1,16 +1,13 @@
 //! The state of a database, from all rows of its tables.
 
 ghost use Rattle.std.specs.Prelude.{◌≡◌, ◌↔◌, ◌≤◌, List, IsTrue, IfOk, IfErr, length};
-ghost use Rattle.std.specs.List.{prefix_len};
-ghost use Rattle.std.specs.List.Sorted.{IsStrictlySortedBy};
+ghost use Rattle.std.specs.{List.prefix_len, List.Sorted.IsStrictlySortedBy};
 ghost use Rattle.sqlite_value.specs.Order.{column};
 ghost use Rattle.desk_rules.specs.Limits.{max_plans};
 ghost use Rattle.desk_store.specs.World as world;
 ghost use Rattle.desk_store.specs.World.{World, Listed, Filed, listed_cmp, filed_cmp};
-ghost use Rattle.row_codec.specs.Tables.{id_text, row_of_plan};
-ghost use Rattle.row_codec.specs.ContentRows as spec;
-ghost use Rattle.row_codec.specs.ContentRows.{AreOperatorRows, ArePlanRows, HaveOperatorsAndRoom};
-ghost use Rattle.row_codec.specs.ContentRows.{is_below_first};
+ghost use Rattle.row_codec.specs.Tables.{id_text, row_of_plan, AreOperatorRows, ArePlanRows, HaveOperatorsAndRoom, is_below_first};
+ghost use Rattle.row_codec.specs.Tables as spec;
 
 use crate::exact::{FiledPlan, RowFault, filed_in, listed_in};
 use desk_rules::decide::MAX_PLANS;
@@ -58,7 +55,7 @@ pub struct Content {
 
 impl Model for Content {
     ghost use Rattle.desk_store.specs.World.{World};
-    ghost use Rattle.row_codec.specs.Counting.{HaveSpanRows};
+    ghost use Rattle.row_codec.specs.SpanBounds.{HaveSpanRows};
 
     ghost Value = { World };
 

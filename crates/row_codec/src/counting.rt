@@ -1,12 +1,11 @@
 //! How many spans, and how many cells, the plans of one operator have at most.
 
 ghost use Rattle.std.specs.Prelude.{◌≡◌, ◌*◌, ◌≤◌, ◌⊎◌, ℕ, List, length};
-ghost use Rattle.std.specs.List.{sum_by};
-ghost use Rattle.std.specs.List.Sorted.{IsStrictlySortedBy};
+ghost use Rattle.std.specs.{List.sum_by, List.Sorted.IsStrictlySortedBy};
 ghost use Rattle.volume4d.specs.VolumeLimits.{max_cover, max_volumes};
 ghost use Rattle.desk_rules.specs.Limits.{max_plans};
 ghost use Rattle.desk_store.specs.World.{filed_cmp, rows_by};
-ghost use Rattle.row_codec.specs.Counting.{IsMostOf, count_of};
+ghost use Rattle.row_codec.specs.SpanBounds.{IsMostOf, count_of};
 
 use crate::content::count_own;
 use crate::exact::FiledPlan;

@@ -1,18 +1,14 @@
 //! Operators and plans read from rows that have to be exactly those that the desk writes.
 
-ghost use Rattle.std.specs.Prelude.{◌≡◌, ◌≢◌, ◌≤◌, ◌↔◌, ℕ, List, pos, IsTrue, IfOk, IfErr};
-ghost use Rattle.std.specs.Prelude.{MatchOption};
+ghost use Rattle.std.specs.Prelude.{◌≡◌, ◌≢◌, ◌≤◌, ◌↔◌, ℕ, List, pos, IsTrue, IfOk, IfErr, MatchOption};
 ghost use Rattle.std.specs.List.{AllZip};
 ghost use Rattle.sqlite_value.specs.declared.value.Value.TheVariants.{Int, Text};
 ghost use Rattle.sqlite_value.specs.Order.{column};
-ghost use Rattle.volume4d.specs.Slab.{slab_window};
-ghost use Rattle.volume4d.specs.Volume.{Block};
-ghost use Rattle.desk_rules.specs.Name.{is_operator_name};
+ghost use Rattle.volume4d.specs.{Slab.slab_window, Volume.Block};
+ghost use Rattle.desk_rules.specs.Limits.{is_operator_name};
 ghost use Rattle.desk_store.specs.World.{Filed, Listed};
-ghost use Rattle.row_codec.specs.Tables.{id_text, row_of_operator, row_of_volume, area_rows};
+ghost use Rattle.row_codec.specs.Tables.{id_text, row_of_operator, row_of_volume, area_rows, IsOperator, IsFiled, AreRowsOf, AreNumbersOf, IsKeyed, IsWindowAt, slab_row};
 ghost use Rattle.row_codec.specs.RowsRead.{IsVolumeAt};
-ghost use Rattle.row_codec.specs.Records.{IsOperator, IsFiled, AreRowsOf, AreNumbersOf, IsKeyed};
-ghost use Rattle.row_codec.specs.Records.{IsWindowAt, slab_row};
 
 use crate::values::{area_in, count_at, plan_in};
 use desk_rules::decide::MAX_PRIORITY;
@@ -46,7 +42,7 @@ pub enum RowFault {
 
 impl From<StoreFault> for RowFault {
     ghost use Rattle.std.specs.Prelude.{◌≡◌};
-    ghost use Rattle.row_codec.specs.Records.{row_fault_of};
+    ghost use Rattle.row_codec.specs.Tables.{row_fault_of};
 
     ghost from_gives = { λ fault e. e ≡ row_fault_of fault };
 

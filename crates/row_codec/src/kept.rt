@@ -2,8 +2,7 @@
 
 ghost use Rattle.std.specs.Prelude.{◌≡◌, []};
 ghost use Rattle.std.specs.Borrow.{ftrue};
-ghost use Rattle.desk_store.specs.World.{World};
-ghost use Rattle.desk_store.specs.StoreChange.{changed_by};
+ghost use Rattle.desk_store.specs.{World.World, Changes.changed_by};
 
 use crate::content::Content;
 use desk_store::Change;

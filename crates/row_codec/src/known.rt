@@ -2,12 +2,10 @@
 
 ghost use Rattle.std.specs.Prelude.{◌≡◌, [], length, IfOk, OnOk};
 ghost use Rattle.std.specs.List.Sorted.{IsStrictlySortedBy};
-ghost use Rattle.desk_store.specs.World.{World, filed_cmp};
-ghost use Rattle.desk_store.specs.StoreChange.{changed_by};
+ghost use Rattle.desk_store.specs.{World.World, World.filed_cmp, Changes.changed_by};
 ghost use Rattle.live_index.specs.Live.{AreAddedBy, AreKeptOnce, HasRoomForVolumes};
 ghost use Rattle.operator_index.specs.Roll.{AreAccountsOf, IsReadyFor, accounts_of};
-ghost use Rattle.row_codec.specs.Known.{Knows};
-ghost use Rattle.row_codec.specs.SpanBounds.{BringsKnown, Keeps};
+ghost use Rattle.row_codec.specs.SpanBounds.{Knows, BringsKnown, Keeps};
 
 use crate::exact::FiledPlan;
 use crate::span_bounds::SpanBounds;

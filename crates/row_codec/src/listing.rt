@@ -4,11 +4,9 @@ ghost use Rattle.std.specs.Prelude.{◌≡◌, ◌↔◌, ◌⊎◌, [], ◌∷�
 ghost use Rattle.std.specs.List.{AllByRecursion};
 ghost use Rattle.sqlite_value.specs.Order.{Row as Values};
 ghost use Rattle.desk_rules.specs.declared.plan.PlanRow.{PlanRow as Plan};
-ghost use Rattle.desk_store.specs.World.{Filed};
-ghost use Rattle.desk_store.specs.Content.{IsId, IsPlan};
+ghost use Rattle.desk_store.specs.World.{Filed, IsId, IsPlan};
 ghost use Rattle.row_codec.specs.RowsRead as spec;
-ghost use Rattle.row_codec.specs.RowsRead.{IsHead, listing_rows};
-ghost use Rattle.row_codec.specs.Gathering.{Leads, HasCollected, HasNoArea, IsNoHead, IsRefusedRow, closed_plans, plan_with};
+ghost use Rattle.row_codec.specs.RowsRead.{IsHead, listing_rows, Leads, HasCollected, HasNoArea, IsNoHead, IsRefusedRow, closed_plans, plan_with};
 
 use crate::values::{PlanHead, head_in, volume_in};
 use desk_rules::plan::PlanRow;
@@ -117,9 +115,8 @@ impl PlanCollector {
 
 impl RowVisitor for PlanCollector {
     ghost use Rattle.std.specs.Prelude.{◌≡◌, ◌⊎◌, ⊤};
-    ghost use Rattle.sqlite.specs.declared.error.Error.TheVariants.{SqliteFailure};
-    ghost use Rattle.sqlite.specs.declared.error.ErrorCode.TheVariants.{OutOfMemory};
-    ghost use Rattle.row_codec.specs.Gathering.{HasCollected, BeginNoListing};
+    ghost use Rattle.sqlite.specs.declared.error.{Error.TheVariants.SqliteFailure, ErrorCode.TheVariants.OutOfMemory};
+    ghost use Rattle.row_codec.specs.RowsRead.{HasCollected, BeginNoListing};
 
     ghost has_taken = { λ g rows. HasCollected g.plans.items g.head g.volumes.items rows };
 

@@ -1,17 +1,14 @@
 //! The rows of a plan, as they are written to the tables.
 
 ghost use Rattle.std.specs.Prelude.{◌≡◌, ◌≤◌, ◌<◌, ◌+◌, ◌^◌, ℕ, pos, IfOk, map};
-ghost use Rattle.std.specs.List.{AllByRecursion};
-ghost use Rattle.std.specs.String.{string_bytes};
-ghost use Rattle.volume4d.specs.FootprintBytes.{footprint_bytes};
+ghost use Rattle.std.specs.{List.AllByRecursion, String.string_bytes};
+ghost use Rattle.volume4d.specs.Footprint.{footprint_bytes};
 ghost use Rattle.desk_sql.specs.Rows.{cover_row};
-ghost use Rattle.desk_changes.specs.Batches.{volume_row_in, cover_of, span_row_in};
-ghost use Rattle.desk_store.specs.Changes.{filed_by};
+ghost use Rattle.desk_changes.specs.RowChanges.{volume_row_in, cover_of, span_row_in};
+ghost use Rattle.desk_store.specs.{Changes.filed_by, World.IsId, World.IsValidVolume};
 ghost use Rattle.row_codec.specs.Tables as spec;
-ghost use Rattle.row_codec.specs.Tables.{id_text, area_rows, area_covers, ArePlanSpanRows, AreSpanRowsFrom};
-ghost use Rattle.desk_store.specs.Content.{IsId, IsValidVolume};
+ghost use Rattle.row_codec.specs.Tables.{id_text, area_rows, area_covers, ArePlanSpanRows, AreSpanRowsFrom, volume_record, slab_record, AreAskedOf, AreCanonOf};
 ghost use Rattle.row_codec.specs.SpanBounds.{IsKnownRow, Keeps};
-ghost use Rattle.row_codec.specs.PlanRows.{volume_record, slab_record, AreAskedOf, AreCanonOf};
 
 use crate::span_bounds::SpanBounds;
 use desk_changes::{SpanRecord, VolumeRecord};

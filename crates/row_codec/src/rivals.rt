@@ -3,9 +3,9 @@
 ghost use Rattle.std.specs.Prelude.{◌≡◌, ◌≢◌, ◌<◌, ◌*◌, ◌^◌, ℕ, pos, [], IfErr, IfOk};
 ghost use Rattle.sqlite_value.specs.declared.value.Value.TheVariants.{Int};
 ghost use Rattle.sqlite_value.specs.Order.{column};
-ghost use Rattle.row_codec.specs.RivalRows as spec;
+ghost use Rattle.row_codec.specs.RowsRead as spec;
 ghost use Rattle.volume4d.specs.declared.slab.Held.{Held as One};
-ghost use Rattle.row_codec.specs.RivalRows.{FitsColumns, IsHeldIn, IsNoHeld, IsSlabIn, HasTakenHelds};
+ghost use Rattle.row_codec.specs.RowsRead.{FitsColumns, IsHeldIn, IsNoHeld, IsSlabIn, HasTakenHelds};
 
 use crate::listing::error_of;
 use crate::values::{count_at, i32_at, i64_at};
@@ -45,9 +45,8 @@ impl SpanCollector {
 
 impl RowVisitor for SpanCollector {
     ghost use Rattle.std.specs.Prelude.{◌≡◌, ◌⊎◌, ⊤};
-    ghost use Rattle.sqlite.specs.declared.error.Error.TheVariants.{SqliteFailure};
-    ghost use Rattle.sqlite.specs.declared.error.ErrorCode.TheVariants.{OutOfMemory};
-    ghost use Rattle.row_codec.specs.RivalRows.{HasTakenHelds, IsNoHeld};
+    ghost use Rattle.sqlite.specs.declared.error.{Error.TheVariants.SqliteFailure, ErrorCode.TheVariants.OutOfMemory};
+    ghost use Rattle.row_codec.specs.RowsRead.{HasTakenHelds, IsNoHeld};
 
     ghost has_taken = { λ r rows. HasTakenHelds r.helds.items rows };
 

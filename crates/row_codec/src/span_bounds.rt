@@ -4,8 +4,7 @@
 ghost use Rattle.std.specs.Prelude.{◌≡◌, ◌≤◌, ◌<◌, ◌≤ℤ◌, ◌↔◌, ℕ, pos, IfOk, IfSome, IsPermutation, IsTrue, OnOk, Some, length};
 ghost use Rattle.std.specs.List.{AllByRecursion, list_any};
 ghost use Rattle.s2_cover.specs.declared.spans.Span.{Span as Range};
-ghost use Rattle.row_codec.specs.SpanBounds.{FindAll, BeginsOrNone, IsAmong, IsKnown, IsKnownBetween, IsLow, IsRoomFor, IsBoundedBy};
-ghost use Rattle.row_codec.specs.SpanBounds.{IsWithinExtent, Keeps, begins_in, takes_in};
+ghost use Rattle.row_codec.specs.SpanBounds.{FindAll, BeginsOrNone, IsAmong, IsKnown, IsKnownBetween, IsLow, IsRoomFor, IsBoundedBy, IsWithinExtent, Keeps, begins_in, takes_in};
 
 use s2_cover::Span;
 use std::alloc::{AllocError, Global};

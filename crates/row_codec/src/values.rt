@@ -1,22 +1,13 @@
 //! Values read from the columns of rows.
 
-ghost use Rattle.std.specs.Prelude.{◌≡◌, ◌≢◌, ◌≤◌, ◌<◌, ◌^◌, ℕ, ℤ, List, [], pos};
-ghost use Rattle.std.specs.Prelude.{IsTrue, IsUtf8, FitsSigned, IfOk, IfErr};
-ghost use Rattle.std.specs.Int.{w32};
-ghost use Rattle.std.specs.List.{AllByRecursion, AllZip};
-ghost use Rattle.std.specs.String.{string_bytes};
+ghost use Rattle.std.specs.Prelude.{◌≡◌, ◌≢◌, ◌≤◌, ◌<◌, ◌^◌, ℕ, ℤ, List, [], pos, IsTrue, IsUtf8, FitsSigned, IfOk, IfErr};
+ghost use Rattle.std.specs.{Int.w32, List.AllByRecursion, List.AllZip, String.string_bytes};
 ghost use Rattle.sqlite_value.specs.declared.value.Value.TheVariants.{Int, Text, Blob};
 ghost use Rattle.sqlite_value.specs.Order.{column};
 ghost use Rattle.volume4d.specs.Volume.{Block, is_area};
-ghost use Rattle.desk_rules.specs.declared.plan.PlanRow.{PlanRow as Plan};
-ghost use Rattle.desk_rules.specs.declared.words.Usage.{Usage as Use};
-ghost use Rattle.desk_rules.specs.declared.words.Aircraft.{Aircraft as State};
-ghost use Rattle.row_codec.specs.Tables.{id_text, usage_number, aircraft_number};
-ghost use Rattle.desk_store.specs.Content.{IsId, IsValidVolume};
-ghost use Rattle.row_codec.specs.RowsRead.{IsVolumeAt, IsHead};
-ghost use Rattle.row_codec.specs.Records.{AreNumbersOf};
-ghost use Rattle.row_codec.specs.Gathering.{plan_with};
-ghost use Rattle.row_codec.specs.ErrorFaults.{IsReportedAs};
+ghost use Rattle.desk_rules.specs.declared.{plan.PlanRow.PlanRow as Plan, words.Usage.Usage as Use, words.Aircraft.Aircraft as State};
+ghost use Rattle.row_codec.specs.{Tables.id_text, Tables.usage_number, Tables.aircraft_number, Tables.AreNumbersOf, RowsRead.IsVolumeAt, RowsRead.IsHead, RowsRead.plan_with, RowsRead.IsReportedAs};
+ghost use Rattle.desk_store.specs.World.{IsId, IsValidVolume};
 
 use desk_rules::plan::PlanRow;
 use desk_rules::plan_id::PlanId;

@@ -3,9 +3,7 @@ use Rattle.std.proofs.Common.{◌≡◌, ℕ, ◌<◌, ◌≤◌, List, [], ◌�
 use Rattle.std.specs.Prelude.{Bool, true, false, not, ◌==◌, nat_lt, IsTrue, Option, Some, None, Ok, Err}
 use Rattle.std.specs.Option.{SomeIff, ok_or}
 use Rattle.std.proofs.lemmas.Bool.Decides.{nat_tests}
-use Rattle.s2_cellid.specs.Cell.{is_cell_id, IsCellId}
-use Rattle.s2_cellid.specs.Digits.{is_hex}
-use Rattle.s2_cellid.specs.Token.{zero_padded_value, IsSpelling, first_fault, unless, read_token}
+use Rattle.s2_cellid.specs.Cell.{is_cell_id, IsCellId, is_hex, zero_padded_value, IsSpelling, first_fault, unless, read_token}
 use Rattle.s2_cellid.specs.declared.tokens.TokenFault.TheVariants.{Empty, TooLong, NotHex, NotACell}
 
 -- whether a text is empty, too long, hex, a cell

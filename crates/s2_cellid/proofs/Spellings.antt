@@ -16,10 +16,8 @@ use Rattle.std.proofs.lemmas.Nat.{pow-add, shl-shr, shl_whole, mod-mul-add, div-
 use Rattle.std.proofs.lemmas.Str.{digit_value-digit_char}
 use Rattle.std.proofs.Math.Nat.{mul_assoc, pow-succ', pow-le-pow_right, mul-le-mul_right}
 use Rattle.std.proofs.Math.Seq.{take-append_seam}
-use Rattle.s2_cellid.specs.Cell.{lowest_place, lowest_bit, IsCellId}
+use Rattle.s2_cellid.specs.Cell.{lowest_place, lowest_bit, IsCellId, is_hex, zero_padded, HoldsToken, refilled, zero_padded_value, IsSpelling, IsInPrintedForm, hex_digits, is_zero, without_end_zeros, token_text}
 use Rattle.s2_cellid.proofs.lemmas.Block.{id_between, block_of, number_of}
-use Rattle.s2_cellid.specs.Digits.{is_hex, zero_padded, HoldsToken, refilled}
-use Rattle.s2_cellid.specs.Token.{zero_padded_value, IsSpelling, IsInPrintedForm, hex_digits, is_zero, without_end_zeros, token_text}
 
 pub length-hex_digits : (count n : ℕ) → length (hex_digits count n) ≡ count
 unfolding hex_digits

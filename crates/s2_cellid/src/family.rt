@@ -1,10 +1,8 @@
 //! The cells of leaves and squares, and the cells above and below a cell.
 
 ghost use Rattle.std.specs.Prelude.{◌≡◌, ◌↔◌, ◌+◌, ◌-◌, ◌/◌, ◌<◌, ◌≤◌, IsTrue};
-ghost use Rattle.s2_hilbert.specs.Grid.{GridLeaf, IsLeaf, LiesInSquare, ShareSquare, leaf_level};
-ghost use Rattle.s2_hilbert.specs.Curve.{position_of, leaf_count};
-ghost use Rattle.s2_cellid.specs.Cell.{IsCellId, level_of, first_leaf};
-ghost use Rattle.s2_cellid.specs.Family.{leaf_id, cell_has_leaf, square_id, parent_id, child_id};
+ghost use Rattle.s2_hilbert.specs.{Grid.GridLeaf, Grid.IsLeaf, Grid.LiesInSquare, Grid.ShareSquare, Grid.leaf_level, Curve.position_of, Curve.leaf_count};
+ghost use Rattle.s2_cellid.specs.Cell.{IsCellId, level_of, first_leaf, leaf_id, cell_has_leaf, square_id, parent_id, child_id};
 
 use crate::CellId;
 use s2_hilbert::{Leaf, Square, position};

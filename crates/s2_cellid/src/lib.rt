@@ -3,13 +3,9 @@
 #![tactic(auto)]
 
 ghost use Rattle.std.specs.Prelude.{◌≡◌, ◌↔◌, ◌≤◌, ◌<◌, ◌+◌, ◌*◌, ◌^◌, ℕ, IsTrue};
-ghost use Rattle.std.specs.Int.{IsInRange};
-ghost use Rattle.std.specs.Option.{SomeIff};
+ghost use Rattle.std.specs.{Int.IsInRange, Option.SomeIff};
 ghost use Rattle.s2_hilbert.specs.Grid.{GridLeaf, IsLeaf, ShareSquare, leaf_level};
-ghost use Rattle.s2_cellid.specs.Cell.{IsCellId, face_of, level_of, lowest_bit};
-ghost use Rattle.s2_cellid.specs.Cell.{first_leaf_id, last_leaf_id, leaf_id_at};
-ghost use Rattle.s2_cellid.specs.Cell.{first_leaf, last_leaf, cell_has};
-ghost use Rattle.s2_cellid.specs.Family.{cell_has_leaf};
+ghost use Rattle.s2_cellid.specs.Cell.{IsCellId, face_of, level_of, lowest_bit, first_leaf_id, last_leaf_id, leaf_id_at, first_leaf, last_leaf, cell_has, cell_has_leaf};
 
 mod family;
 mod tokens;

@@ -1,13 +1,8 @@
 //! Tokens: the texts of cell ids (S2's `ToToken` and `FromToken`).
 
 ghost use Rattle.std.specs.Prelude.{◌≡◌, ◌-◌, ◌<◌, ◌≤◌, ◌↔◌, ℕ, length, IsTrue, List, Ok, Some};
-ghost use Rattle.std.specs.Char.{digit_char, digit_value};
-ghost use Rattle.std.specs.List.{suffix_len};
-ghost use Rattle.std.specs.Option.{SomeIff};
-ghost use Rattle.s2_cellid.specs.Cell.{IsCellId};
-ghost use Rattle.s2_cellid.specs.Digits.{is_hex, id_digits};
-ghost use Rattle.s2_cellid.specs.Token.{zero_padded_value, IsSpelling, IsInPrintedForm, read_token};
-ghost use Rattle.s2_cellid.specs.Token.{hex_digits, is_zero, token_text};
+ghost use Rattle.std.specs.{Char.digit_char, Char.digit_value, List.suffix_len, Option.SomeIff};
+ghost use Rattle.s2_cellid.specs.Cell.{IsCellId, is_hex, id_digits, zero_padded_value, IsSpelling, IsInPrintedForm, read_token, hex_digits, is_zero, token_text};
 
 use crate::CellId;
 use std::error::Error;
@@ -54,7 +49,7 @@ pub enum TokenFault {
 }
 
 impl fmt::Display for TokenFault {
-    ghost use Rattle.s2_cellid.specs.Token.{token_fault_text};
+    ghost use Rattle.s2_cellid.specs.Cell.{token_fault_text};
 
     ghost output = { λ fault. Some (token_fault_text fault) };
 
@@ -84,7 +79,7 @@ impl Model for Token {
 
     ghost Value = { List ℕ };
 
-    ghost use Rattle.s2_cellid.specs.Digits.{zero_padded, HoldsToken, refilled};
+    ghost use Rattle.s2_cellid.specs.Cell.{zero_padded, HoldsToken, refilled};
 
     ghost view = { λ token. take token.printed token.digits };
 

@@ -13,7 +13,7 @@ use Rattle.s2_hilbert.specs.Curve.{leaf_count}
 use Rattle.s2_hilbert.proofs.lemmas.Place.{power_of_four}
 use Rattle.s2_cellid.proofs.lemmas.Block.{zero_low, power_double, number_of}
 use Rattle.s2_cellid.proofs.lemmas.Family.{IsCellOf, cell_of}
-use Rattle.s2_cover.specs.Laying.{IsLargestFrom, EndsWithin, IsLargestFitting}
+use Rattle.s2_cover.specs.Covers.{IsLargestFrom, EndsWithin, IsLargestFitting}
 use Rattle.s2_cover.proofs.Nesting.{has_leaves, place_of}
 
 pub some_when : {T : Type 0} (o : Option T) (P : Type 0) (v : T) → SomeIff o P v → P → o ≡ Some v

@@ -9,8 +9,7 @@ use Rattle.std.proofs.lemmas.List.Elements.{All-get_or}
 use Rattle.std.proofs.lemmas.List.Folds.{Any-from_list_any, list_any_at}
 use Rattle.std.proofs.lemmas.List.Kept.{AllPairs-from_increasing, IsStrictlyIncreasing-filter}
 use Rattle.s2_cellid.specs.Cell.{first_leaf_id, last_leaf_id, leaf_id_at, cell_has}
-use Rattle.s2_cover.specs.Leaves.{leaves_of}
-use Rattle.s2_cover.specs.Ranges.{IsSpan, IsRanges, span_has, spans_have, begins_range, range_count}
+use Rattle.s2_cover.specs.Covers.{leaves_of, IsSpan, IsRanges, span_has, spans_have, begins_range, range_count}
 use Rattle.s2_cover.specs.declared.spans.Span.{Span}
 use Rattle.s2_cover.proofs.Listing.{rises, within, passes, keeps}
 use Rattle.s2_cover.proofs.Pigeons.{no_longer}

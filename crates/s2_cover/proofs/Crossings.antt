@@ -7,7 +7,7 @@ use Rattle.std.proofs.lemmas.List.Kept.{AllPairs-cons}
 use Rattle.s2_hilbert.specs.Curve.{leaf_count}
 use Rattle.s2_cellid.specs.Cell.{lowest_place, IsCellId, first_leaf, last_leaf, cell_has}
 use Rattle.s2_cellid.proofs.lemmas.Block.{first_belongs, last_belongs}
-use Rattle.s2_cover.specs.Walking.{AllIn, IsCrossed, IsCrossedIn, AreCrossedIn}
+use Rattle.s2_cover.specs.Covers.{AllIn, IsCrossed, IsCrossedIn, AreCrossedIn}
 use Rattle.s2_cover.proofs.Beginnings.{same_place}
 use Rattle.s2_cover.proofs.Laid.{has_position, position_in}
 use Rattle.s2_cover.proofs.Nesting.{has_leaves, place_of, nested, same_cell}

@@ -4,10 +4,7 @@ use Rattle.std.specs.Prelude.{IsTrue}
 use Rattle.std.proofs.Math.Nat.{mul-le-mul_right}
 use Rattle.std.proofs.lemmas.Bool.{cases_lt, cases_Bool}
 use Rattle.s2_hilbert.specs.Curve.{leaf_count}
-use Rattle.s2_cover.specs.Leaves.{leaves_of}
-use Rattle.s2_cover.specs.Canonical.{IsCanonical}
-use Rattle.s2_cover.specs.Laying.{IsLaid}
-use Rattle.s2_cover.specs.Walking.{AllIn, SomeIn, IsOpened}
+use Rattle.s2_cover.specs.Covers.{leaves_of, IsCanonical, IsLaid, AllIn, SomeIn, IsOpened}
 use Rattle.s2_cover.proofs.Laid.{laid_none, laid_upto, laid_more, canonical_when_laid, leaves_when_laid}
 use Rattle.s2_cover.proofs.SquareCells.{IsBlock, block_at, four_children}
 use Rattle.s2_cover.proofs.Walks.{block_largest, child_opened}

@@ -5,22 +5,16 @@ use Rattle.std.specs.Int.{IsInRange}
 use Rattle.std.proofs.Math.Nat.{mul-le-mul_right}
 use Rattle.std.proofs.lemmas.Bool.{cases_lt, both_ways}
 use Rattle.std.proofs.lemmas.Bool.Decides.{nat_tests}
-use Rattle.s2_hilbert.specs.Grid.{GridLeaf, grid_leaf, IsLeaf, GridSquare, IsSquare, grid_square}
+use Rattle.s2_hilbert.specs.Grid.{GridLeaf, grid_leaf, IsLeaf, GridSquare, IsSquare, grid_square, side_of}
 use Rattle.s2_hilbert.specs.Curve.{position_of, grid_leaf_at, first_position, last_position, place}
 use Rattle.s2_hilbert.proofs.lemmas.Curve.{leaf_undone}
-use Rattle.s2_cellid.specs.Family.{square_id}
-use Rattle.s2_cover.specs.Leaves.{leaves_of}
-use Rattle.s2_cover.specs.Canonical.{IsCanonical}
-use Rattle.s2_cover.specs.Laying.{IsLaid}
-use Rattle.s2_cover.specs.Rectangles.{RectParts, IsRect, IsInFootprint, WideParts, widened, wide_has, wide_set, rect_leaves, is_along}
-use Rattle.s2_cover.specs.Walking.{IsOpened, HasWalked, HasStopped, AreCrossed, AreCrossedIn, HasCompared, IsRefused, comparisons_for, max_comparisons}
-use Rattle.s2_hilbert.specs.Grid.{side_of}
+use Rattle.s2_cellid.specs.Cell.{square_id, IsCellId, first_leaf, last_leaf, cell_has}
+use Rattle.s2_cover.specs.Covers.{leaves_of, IsCanonical, IsLaid, RectParts, IsRect, IsInFootprint, WideParts, widened, wide_has, wide_set, rect_leaves, is_along, IsOpened, HasWalked, HasStopped, AreCrossed, AreCrossedIn, HasCompared, IsRefused, comparisons_for, max_comparisons}
 use Rattle.s2_cover.specs.declared.walk.CoverFault.{CoverFault}
 use Rattle.s2_cover.specs.declared.walk.CoverFault.TheVariants.{TooManyCells, OutOfMemory}
 use Rattle.s2_cover.proofs.Laid.{has_position, laid_none, laid_upto, canonical_when_laid, leaves_when_laid, canonical_same}
 use Rattle.s2_cover.proofs.SquareCells.{square_block, some_leaves}
 use Rattle.s2_cover.proofs.Nesting.{nested, place_of}
-use Rattle.s2_cellid.specs.Cell.{IsCellId, first_leaf, last_leaf, cell_has}
 use Rattle.s2_cover.proofs.Existence.{has_canonical}
 use Rattle.s2_cover.proofs.Footprints.{footprint_is}
 

@@ -6,7 +6,7 @@ use Rattle.std.proofs.lemmas.Bool.{cases_lt, and_parts}
 use Rattle.std.proofs.lemmas.Bool.Decides.{nat_tests}
 use Rattle.std.proofs.lemmas.Nat.{pow_pos}
 use Rattle.s2_hilbert.specs.Grid.{GridLeaf, grid_leaf, side_of}
-use Rattle.s2_cover.specs.Rectangles.{RectParts, IsRect, IsInFootprint, widened, wide_has, is_along}
+use Rattle.s2_cover.specs.Covers.{RectParts, IsRect, IsInFootprint, widened, wide_has, is_along}
 use Rattle.s2_cover.proofs.RangeTests.{in_range, of_range}
 use Rattle.s2_cover.proofs.Sights.{div_mono, on_face}
 

@@ -12,9 +12,7 @@ use Rattle.std.proofs.lemmas.List.Sorted.{IsNonDecreasingBy-from_default}
 use Rattle.std.proofs.lemmas.List.Kept.{AllPairs-from_increasing}
 use Rattle.s2_cellid.specs.Cell.{lowest_place, IsCellId, first_leaf, last_leaf, cell_has}
 use Rattle.s2_cellid.proofs.lemmas.Block.{leaves_between, first_belongs}
-use Rattle.s2_cover.specs.Leaves.{leaves_of}
-use Rattle.s2_cover.specs.Canonical.{parent_of, IsLargest, IsCanonical}
-use Rattle.s2_cover.specs.Laying.{IsLongestRun, IsLaid, IsLargestFrom}
+use Rattle.s2_cover.specs.Covers.{leaves_of, parent_of, IsLargest, IsCanonical, IsLongestRun, IsLaid, IsLargestFrom}
 use Rattle.s2_cover.specs.declared.spans.Span.{Span}
 use Rattle.s2_cover.proofs.RangeTests.{same_test, or_left, or_right}
 use Rattle.s2_cover.proofs.Nesting.{has_leaves, nested, leaves_inside, same_cell, place_of, IsParent, parent_is}

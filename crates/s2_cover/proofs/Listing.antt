@@ -10,9 +10,7 @@ use Rattle.std.proofs.lemmas.List.Kept.{IsStrictlyIncreasing-filter}
 use Rattle.std.proofs.lemmas.List.Sums.{AllPass-from_list_all, list_all-from_AllPass}
 use Rattle.s2_cellid.specs.Cell.{lowest_place, level_of, is_cell_id, IsCellId, first_leaf, last_leaf, cell_has}
 use Rattle.s2_cellid.proofs.lemmas.Block.{id_between, ends_below}
-use Rattle.s2_cover.specs.Canonical.{parent_of, IsLargest, IsCanonical}
-use Rattle.s2_cover.specs.CanonicalList.{has_cell, is_largest, canonical_list, IsLonger}
-use Rattle.s2_cover.specs.Walking.{IsRefused}
+use Rattle.s2_cover.specs.Covers.{parent_of, IsLargest, IsCanonical, has_cell, is_largest, canonical_list, IsLonger, IsRefused}
 use Rattle.s2_cover.specs.declared.walk.CoverFault.{CoverFault}
 use Rattle.s2_cover.specs.declared.walk.CoverFault.TheVariants.{TooManyCells, OutOfMemory}
 use Rattle.s2_cover.proofs.Existence.{all_or_one}

@@ -12,8 +12,7 @@ use Rattle.std.proofs.lemmas.List.Quantifiers.{all_pairs_push}
 use Rattle.std.proofs.lemmas.List.Folds.{list_any-append, list_any_more, Any-from_list_any, list_any_at}
 use Rattle.std.proofs.lemmas.List.Sorted.{Contains-permutation, IsPermutation-sym}
 use Rattle.s2_cellid.specs.Cell.{first_leaf, cell_has}
-use Rattle.s2_cover.specs.Leaves.{leaves_of}
-use Rattle.s2_cover.specs.Ranges.{IsSpan, IsApart, IsRanges, span_has, spans_have}
+use Rattle.s2_cover.specs.Covers.{leaves_of, IsSpan, IsApart, IsRanges, span_has, spans_have}
 use Rattle.s2_cover.specs.declared.spans.Span.{Span}
 use Rattle.s2_cover.proofs.RangeTests.{same_test, in_range, of_range, or_left, or_right}
 

@@ -10,7 +10,7 @@ use Rattle.std.proofs.Math.Nat.{lt_of_mul-lt-mul_right, mul-le-mul_right, mul_as
 use Rattle.s2_hilbert.specs.Curve.{leaf_count}
 use Rattle.s2_cellid.specs.Cell.{lowest_place, lowest_bit, face_of, level_of, IsCellId, first_leaf, last_leaf, cell_has}
 use Rattle.s2_cellid.proofs.lemmas.Block.{block_of, number_of, ends_of, leaves_between}
-use Rattle.s2_cover.specs.Canonical.{parent_of}
+use Rattle.s2_cover.specs.Covers.{parent_of}
 
 -- a cell's leaves, as a block of as many as its lowest bit says
 pub record HasLeaves (id : ℕ) : Type 0 where

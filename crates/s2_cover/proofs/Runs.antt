@@ -6,8 +6,7 @@ use Rattle.std.proofs.lemmas.Bool.{cases_lt, cases_Bool}
 use Rattle.std.proofs.lemmas.Bool.Decides.{nat_tests}
 use Rattle.std.proofs.lemmas.List.Folds.{list_any_at, Any-from_list_any}
 use Rattle.std.proofs.lemmas.List.{get_or_default}
-use Rattle.s2_cover.specs.Ranges.{IsSpan, IsRanges, span_has}
-use Rattle.s2_cover.specs.Laying.{IsLongestRun, IsLaid}
+use Rattle.s2_cover.specs.Covers.{IsSpan, IsRanges, span_has, IsLongestRun, IsLaid}
 use Rattle.s2_cover.specs.declared.spans.Span.{Span}
 use Rattle.s2_cover.proofs.Laid.{laid_upto}
 

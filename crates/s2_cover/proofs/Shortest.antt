@@ -6,8 +6,7 @@ use Rattle.std.proofs.lemmas.List.Folds.{Any-from_list_any, list_any_at}
 use Rattle.std.proofs.lemmas.List.Kept.{AllPairs-from_increasing}
 use Rattle.s2_cellid.specs.Cell.{lowest_place, IsCellId, first_leaf, cell_has}
 use Rattle.s2_cellid.proofs.lemmas.Block.{first_belongs}
-use Rattle.s2_cover.specs.Leaves.{leaves_of}
-use Rattle.s2_cover.specs.Canonical.{IsLargest, IsCanonical}
+use Rattle.s2_cover.specs.Covers.{leaves_of, IsLargest, IsCanonical}
 use Rattle.s2_cover.proofs.Laid.{has_position, none_larger, largest_apart}
 use Rattle.s2_cover.proofs.Nesting.{has_leaves, nested}
 use Rattle.s2_cover.proofs.Pigeons.{no_longer}

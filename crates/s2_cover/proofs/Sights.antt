@@ -9,8 +9,7 @@ use Rattle.std.proofs.lemmas.Bool.Decides.{nat_tests}
 use Rattle.s2_hilbert.specs.Grid.{GridLeaf, grid_leaf, IsLeaf, GridSquare, IsSquare, LiesInSquare, side_of}
 use Rattle.s2_hilbert.specs.Curve.{position_of, grid_leaf_at, first_position, last_position}
 use Rattle.s2_hilbert.proofs.lemmas.Curve.{leaf_is, position_undone, leaf_undone, square_leaves}
-use Rattle.s2_cover.specs.Rectangles.{WideParts, is_along, wide_set}
-use Rattle.s2_cover.specs.Walking.{AllIn, SomeIn, IsRangeOverlap, IsSquareOverlap, combined_overlap}
+use Rattle.s2_cover.specs.Covers.{WideParts, is_along, wide_set, AllIn, SomeIn, IsRangeOverlap, IsSquareOverlap, combined_overlap}
 use Rattle.s2_cover.specs.declared.sight.Overlap.{Overlap}
 use Rattle.s2_cover.specs.declared.sight.Overlap.TheVariants.{Outside, Inside, Across}
 use Rattle.s2_cover.proofs.RangeTests.{of_range}

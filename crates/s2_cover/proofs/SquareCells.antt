@@ -5,11 +5,10 @@ use Rattle.std.specs.Prelude.{IsTrue}
 use Rattle.std.proofs.lemmas.Nat.{pow-add}
 use Rattle.s2_hilbert.specs.Grid.{GridSquare, IsSquare}
 use Rattle.s2_hilbert.specs.Curve.{first_position, last_position, leaf_count}
-use Rattle.s2_cellid.specs.Cell.{lowest_place, level_of, IsCellId, first_leaf, last_leaf, cell_has}
-use Rattle.s2_cellid.specs.Family.{square_id}
+use Rattle.s2_cellid.specs.Cell.{lowest_place, level_of, IsCellId, first_leaf, last_leaf, cell_has, square_id}
 use Rattle.s2_cellid.proofs.lemmas.Block.{first_belongs}
 use Rattle.s2_cellid.proofs.lemmas.Family.{IsCellOf, cell_of, square_cell, count_room}
-use Rattle.s2_cover.specs.Canonical.{parent_of}
+use Rattle.s2_cover.specs.Covers.{parent_of}
 use Rattle.s2_cover.proofs.Laid.{has_position}
 use Rattle.s2_cover.proofs.Nesting.{has_leaves, place_of, parent_is, leaves_inside, same_cell}
 

@@ -6,8 +6,7 @@ use Rattle.std.proofs.lemmas.Bool.{cases_lt, or_cases, both_ways}
 use Rattle.std.proofs.lemmas.List.Elements.{All-head, All-tail}
 use Rattle.std.proofs.lemmas.List.Folds.{Any-from_list_any}
 use Rattle.std.proofs.lemmas.List.Kept.{AllPairs-from_increasing}
-use Rattle.s2_cover.specs.Canonical.{IsCanonical}
-use Rattle.s2_cover.specs.Ranges.{IsSpan, IsApart, IsRanges, span_has, spans_have}
+use Rattle.s2_cover.specs.Covers.{IsCanonical, IsSpan, IsApart, IsRanges, span_has, spans_have}
 use Rattle.s2_cover.specs.declared.spans.Span.{Span}
 use Rattle.s2_cover.proofs.RangeTests.{in_range, of_range, or_left, or_right, same_test}
 

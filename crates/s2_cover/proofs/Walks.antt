@@ -1,17 +1,13 @@
 -- The walk down the squares: what is laid, and how many comparisons it takes.
 use Rattle.std.proofs.Common.{◌≡◌, ℕ, ◌+◌, ◌-◌, ◌*◌, ◌<◌, ◌≤◌, Bool, true, false, List, [], ◌∷◌, ◌++◌, length, refl, sym, ◌∙◌, ap, subst, arith, inr}
-use Rattle.std.specs.Prelude.{IsTrue, Contains}
+use Rattle.std.specs.Prelude.{IsTrue, Contains, Result, Ok, Err, IfErr}
 use Rattle.std.proofs.lemmas.List.{length-append, append-nil, append_assoc}
 use Rattle.std.proofs.lemmas.List.Folds.{Any-from_list_any}
-use Rattle.std.specs.Prelude.{Result, Ok, Err, IfErr}
 use Rattle.std.specs.Result.{IsErrAnd}
 use Rattle.s2_hilbert.specs.Grid.{GridSquare, IsSquare}
 use Rattle.s2_hilbert.specs.Curve.{first_position, last_position, leaf_count}
-use Rattle.s2_cellid.specs.Family.{square_id}
-use Rattle.s2_cellid.specs.Cell.{first_leaf, last_leaf, cell_has}
-use Rattle.s2_cover.specs.Canonical.{IsLargest, IsCanonical}
-use Rattle.s2_cover.specs.Laying.{IsLaid}
-use Rattle.s2_cover.specs.Walking.{AllIn, SomeIn, IsOpened, comparisons_for, HasMoreCells, IsCrossed, AreCrossedIn, HasWalked, HasStopped, IsFull}
+use Rattle.s2_cellid.specs.Cell.{square_id, first_leaf, last_leaf, cell_has}
+use Rattle.s2_cover.specs.Covers.{IsLargest, IsCanonical, IsLaid, AllIn, SomeIn, IsOpened, comparisons_for, HasMoreCells, IsCrossed, AreCrossedIn, HasWalked, HasStopped, IsFull}
 use Rattle.s2_cover.specs.declared.walk.CoverFault.{CoverFault}
 use Rattle.s2_cover.specs.declared.walk.CoverFault.TheVariants.{TooManyCells, OutOfMemory}
 use Rattle.s2_cover.proofs.Laid.{laid_upto, laid_more, position_in, has_position}

@@ -1,11 +1,7 @@
 //! Canonical covers.
 
-ghost use Rattle.std.specs.Prelude.{◌≡◌, ◌≢◌, ℕ, ◌+◌, ◌*◌, ◌^◌, ◌<◌, ◌≤◌, Bool, [], length};
-ghost use Rattle.std.specs.Prelude.{IfOk, OnOk, IfSome, IfNone};
-ghost use Rattle.s2_cover.specs.Leaves.{leaves_of};
-ghost use Rattle.s2_cover.specs.Canonical.{IsCanonical};
-ghost use Rattle.s2_cover.specs.Ranges.{IsRanges, spans_have};
-ghost use Rattle.s2_cover.specs.Laying.{IsLongestRun, IsLaid, IsLargestFrom, IsLargestFitting};
+ghost use Rattle.std.specs.Prelude.{◌≡◌, ◌≢◌, ℕ, ◌+◌, ◌*◌, ◌^◌, ◌<◌, ◌≤◌, Bool, [], length, IfOk, OnOk, IfSome, IfNone};
+ghost use Rattle.s2_cover.specs.Covers.{leaves_of, IsCanonical, IsRanges, spans_have, IsLongestRun, IsLaid, IsLargestFrom, IsLargestFitting};
 
 use crate::spans::{Ranges, Span};
 use s2_cellid::CellId;
@@ -22,8 +18,7 @@ pub struct Cover {
 }
 
 impl Model for Cover {
-    ghost use Rattle.s2_cover.specs.Canonical.{CoverParts, IsCanonical};
-    ghost use Rattle.s2_cover.specs.Leaves.{leaves_of};
+    ghost use Rattle.s2_cover.specs.Covers.{CoverParts, IsCanonical, leaves_of};
 
     ghost Value = { CoverParts };
 

@@ -3,11 +3,7 @@
 ghost use Rattle.std.specs.Prelude.{◌≡◌, ◌↔◌, ℕ, ◌*◌, ◌^◌, ◌<◌, ◌≤◌, Bool, IsTrue, List, Contains, length};
 ghost use Rattle.s2_hilbert.specs.Grid.{GridLeaf};
 ghost use Rattle.s2_cellid.specs.Cell.{IsCellId};
-ghost use Rattle.s2_cover.specs.Leaves.{leaves_of};
-ghost use Rattle.s2_cover.specs.Canonical.{IsCanonical};
-ghost use Rattle.s2_cover.specs.CanonicalList.{canonical_list};
-ghost use Rattle.s2_cover.specs.Rectangles.{RectParts, IsRect, IsInFootprint, widened, wide_has};
-ghost use Rattle.s2_cover.specs.Ranges.{IsRanges, range_count};
+ghost use Rattle.s2_cover.specs.Covers.{leaves_of, IsCanonical, canonical_list, RectParts, IsRect, IsInFootprint, widened, wide_has, IsRanges, range_count};
 ghost use Rattle.s2_cover.specs.declared.spans.Span.{Span};
 
 /// A set of leaves has at most one canonical list of cells.

@@ -2,7 +2,7 @@
 
 ghost use Rattle.std.specs.Prelude.{◌≡◌, ◌&&◌, nat_le};
 ghost use Rattle.std.specs.Int.{is_in_range};
-ghost use Rattle.s2_cover.specs.Rectangles.{rect_or_fault, is_coordinate, min_level, max_level, IsRect};
+ghost use Rattle.s2_cover.specs.Covers.{rect_or_fault, is_coordinate, min_level, max_level, IsRect};
 
 use s2_hilbert::{FACE_SIDE, FACES};
 use std::error::Error;
@@ -42,7 +42,7 @@ pub enum RectFault {
 
 impl fmt::Display for RectFault {
     ghost use Rattle.std.specs.Prelude.{Some};
-    ghost use Rattle.s2_cover.specs.CoverFaults.{rect_fault_text};
+    ghost use Rattle.s2_cover.specs.Covers.{rect_fault_text};
 
     ghost output = { λ fault. Some (rect_fault_text fault) };
 
@@ -59,7 +59,7 @@ impl fmt::Display for RectFault {
 impl Error for RectFault {}
 
 impl Model for Rect {
-    ghost use Rattle.s2_cover.specs.Rectangles.{RectParts, IsRect};
+    ghost use Rattle.s2_cover.specs.Covers.{RectParts, IsRect};
 
     ghost Value = { RectParts };
 

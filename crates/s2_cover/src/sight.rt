@@ -3,9 +3,8 @@
 ghost use Rattle.std.specs.Prelude.{◌≡◌, ◌≢◌, ℕ, ◌+◌, ◌/◌, ◌^◌, ◌<◌, ◌≤◌};
 ghost use Rattle.s2_hilbert.specs.Grid.{IsSquare};
 ghost use Rattle.s2_hilbert.specs.Grid as grid;
-ghost use Rattle.s2_cover.specs.Rectangles.{IsRect, widened, is_along, wide_set};
-ghost use Rattle.s2_cover.specs.Walking as spec;
-ghost use Rattle.s2_cover.specs.Walking.{IsRangeOverlap, IsSquareOverlap, IsWide};
+ghost use Rattle.s2_cover.specs.Covers.{IsRect, widened, is_along, wide_set, IsRangeOverlap, IsSquareOverlap, IsWide};
+ghost use Rattle.s2_cover.specs.Covers as spec;
 ghost use Rattle.s2_cover.specs.declared.sight.Overlap.TheVariants.{Across};
 
 use crate::rect::Rect;
@@ -36,8 +35,7 @@ pub(crate) enum Overlap {
 }
 
 impl Model for Widened {
-    ghost use Rattle.s2_cover.specs.Rectangles.{WideParts};
-    ghost use Rattle.s2_cover.specs.Walking.{IsWide};
+    ghost use Rattle.s2_cover.specs.Covers.{WideParts, IsWide};
 
     ghost Value = { WideParts };
 

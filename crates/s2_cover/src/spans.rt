@@ -3,8 +3,7 @@
 ghost use Rattle.std.specs.Prelude.{◌≡◌, ◌<◌, ℕ, IfOk, length};
 ghost use Rattle.std.specs.List.Sorted.{IsNonDecreasingBy};
 ghost use Rattle.s2_cellid.specs.Cell.{first_leaf, cell_has};
-ghost use Rattle.s2_cover.specs.Leaves.{leaves_of};
-ghost use Rattle.s2_cover.specs.Ranges.{IsSpan, IsRanges, span_has, spans_have};
+ghost use Rattle.s2_cover.specs.Covers.{leaves_of, IsSpan, IsRanges, span_has, spans_have};
 
 use s2_cellid::CellId;
 use std::alloc::{AllocError, Global};
@@ -30,7 +29,7 @@ pub struct Ranges {
 impl Model for Ranges {
     ghost use Rattle.std.specs.Prelude.{List};
     ghost use Rattle.s2_cover.specs.declared.spans.Span.{Span};
-    ghost use Rattle.s2_cover.specs.Ranges.{IsRanges, spans_have};
+    ghost use Rattle.s2_cover.specs.Covers.{IsRanges, spans_have};
 
     ghost Value = { List Span };
 

@@ -2,15 +2,9 @@
 
 ghost use Rattle.std.specs.Prelude.{◌≡◌, ◌↔◌, ℕ, ◌+◌, ◌-◌, ◌^◌, ◌<◌, ◌≤◌, [], ◌∷◌, ◌++◌, IsTrue, IfOk, IfErr, OnOk, length};
 ghost use Rattle.std.specs.Int.{IsInRange};
-ghost use Rattle.s2_hilbert.specs.Grid.{GridLeaf, IsLeaf, IsSquare};
-ghost use Rattle.s2_hilbert.specs.Curve.{position_of, first_position, last_position};
-ghost use Rattle.s2_cellid.specs.Family.{square_id};
-ghost use Rattle.s2_cover.specs.Leaves.{leaves_of};
-ghost use Rattle.s2_cover.specs.Canonical.{IsCanonical};
-ghost use Rattle.s2_cover.specs.CanonicalList.{canonical_list, IsLonger};
-ghost use Rattle.s2_cover.specs.Laying.{IsLaid};
-ghost use Rattle.s2_cover.specs.Rectangles.{IsInFootprint, rect_leaves, wide_set};
-ghost use Rattle.s2_cover.specs.Walking.{IsOpened, IsWide, HasWalked, HasStopped, IsFull, IsRefused, HasCompared, comparisons_for, max_comparisons};
+ghost use Rattle.s2_hilbert.specs.{Grid.GridLeaf, Grid.IsLeaf, Grid.IsSquare, Curve.position_of, Curve.first_position, Curve.last_position};
+ghost use Rattle.s2_cellid.specs.Cell.{square_id};
+ghost use Rattle.s2_cover.specs.Covers.{leaves_of, IsCanonical, canonical_list, IsLonger, IsLaid, IsInFootprint, rect_leaves, wide_set, IsOpened, IsWide, HasWalked, HasStopped, IsFull, IsRefused, HasCompared, comparisons_for, max_comparisons};
 ghost use Rattle.s2_cover.specs.declared.walk.CoverFault.TheVariants.{OutOfMemory};
 
 use crate::covers::Cover;
@@ -36,7 +30,7 @@ pub enum CoverFault {
 
 impl fmt::Display for CoverFault {
     ghost use Rattle.std.specs.Prelude.{Some};
-    ghost use Rattle.s2_cover.specs.CoverFaults.{cover_fault_text};
+    ghost use Rattle.s2_cover.specs.Covers.{cover_fault_text};
 
     ghost output = { λ fault. Some (cover_fault_text fault) };
 

@@ -1,3 +1,2 @@
--- Read first: Grid, Curve.
 pub mod Grid
 pub mod Curve

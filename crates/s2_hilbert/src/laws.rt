@@ -3,8 +3,7 @@
 ghost use Rattle.std.specs.Prelude.{◌≡◌, ◌↔◌, ℕ, ◌*◌, ◌/◌, ◌^◌, ◌<◌, ◌≤◌};
 ghost use Rattle.std.specs.Int.{IsInRange};
 ghost use Rattle.s2_hilbert.specs.Grid.{GridLeaf, IsLeaf, GridSquare, IsSquare, LiesInSquare, ShareSquare};
-ghost use Rattle.s2_hilbert.specs.Curve.{position_of, grid_leaf_at, leaf_count};
-ghost use Rattle.s2_hilbert.specs.Curve.{first_position, last_position};
+ghost use Rattle.s2_hilbert.specs.Curve.{position_of, grid_leaf_at, leaf_count, first_position, last_position};
 
 /// Each position has one leaf, and each leaf one position.
 pub fn positions_are_leaves()

@@ -2,8 +2,7 @@
 
 ghost use Rattle.std.specs.Prelude.{◌≡◌, ◌*◌, ◌^◌, ◌<◌};
 ghost use Rattle.std.specs.Option.{SomeIff};
-ghost use Rattle.s2_hilbert.specs.Grid.{GridLeaf, IsLeaf, grid_leaf, face_count, side_of};
-ghost use Rattle.s2_hilbert.specs.Curve.{position_of, grid_leaf_at};
+ghost use Rattle.s2_hilbert.specs.{Grid.GridLeaf, Grid.IsLeaf, Grid.grid_leaf, Grid.face_count, Grid.side_of, Curve.position_of, Curve.grid_leaf_at};
 
 use crate::four_levels::{place_on_face, point_on_face};
 use crate::levels::{FACE_LEAVES, LEAF_LEVEL};

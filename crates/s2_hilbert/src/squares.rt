@@ -2,11 +2,9 @@
 
 ghost use Rattle.std.specs.Prelude.{◌≡◌, ◌↔◌, ℕ, ◌+◌, ◌-◌, ◌*◌, ◌/◌, ◌^◌, ◌<◌, ◌≤◌};
 ghost use Rattle.std.specs.Int.{IsInRange};
-ghost use Rattle.s2_hilbert.specs.Grid.{GridLeaf, IsLeaf, IsSquare, LiesInSquare, grid_square};
+ghost use Rattle.s2_hilbert.specs.{Grid.GridLeaf, Grid.IsLeaf, Grid.IsSquare, Grid.LiesInSquare, Grid.grid_square, Curve.position_of, Curve.first_position, Curve.last_position};
 ghost use Rattle.s2_hilbert.specs.Grid as grid;
-ghost use Rattle.s2_hilbert.specs.Curve.{position_of};
 ghost use Rattle.s2_hilbert.specs.Curve as curve;
-ghost use Rattle.s2_hilbert.specs.Curve.{first_position, last_position};
 
 use crate::four_levels::place_on_face;
 use crate::levels::{FACE_LEAVES, LEAF_LEVEL};
@@ -27,8 +25,7 @@ pub struct Square {
 
 impl Model for Square {
     ghost use Rattle.std.specs.Prelude.{◌≡◌};
-    ghost use Rattle.s2_hilbert.specs.Grid.{GridSquare, IsSquare, grid_square};
-    ghost use Rattle.s2_hilbert.specs.Curve.{turn_of};
+    ghost use Rattle.s2_hilbert.specs.{Grid.GridSquare, Grid.IsSquare, Grid.grid_square, Curve.turn_of};
 
     ghost Value = { GridSquare };
 

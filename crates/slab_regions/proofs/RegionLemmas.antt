@@ -6,10 +6,8 @@ use Rattle.std.proofs.lemmas.List.Folds.{list_any-append, list_any_more}
 use Rattle.std.proofs.lemmas.List.Sorted.{list_any-IsPermutation}
 use Rattle.volume4d.specs.declared.slab.Slab.{Slab}
 use Rattle.volume4d.specs.declared.slab.Held.{Held}
-use Rattle.volume4d.specs.Bounds.{HasAll, IsClip, IsJoin}
-use Rattle.volume4d.specs.Level.{greater, level_where}
-use Rattle.volume4d.specs.Point.{Point}
-use Rattle.volume4d.specs.Slab.{slab_has, slabs_have, top_held}
+use Rattle.volume4d.specs.Slab.{HasAll, IsClip, IsJoin, greater, level_where, slab_has, slabs_have, top_held}
+use Rattle.volume4d.specs.Volume.{Point}
 use Rattle.volume4d.proofs.lemmas.Bounds.{clip_is, join_has}
 use Rattle.volume4d.proofs.lemmas.Level.{greater_assoc, greater_none, top_held-nil, top_held-push}
 use Rattle.slab_regions.specs.Regions.{HaveEach}

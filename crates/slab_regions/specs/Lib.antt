@@ -1,2 +1,1 @@
 pub mod Regions
-pub mod SearchArea

@@ -1,9 +1,8 @@
 //! Regions: extents that are joined if they overlap along the curve.
 
 ghost use Rattle.std.specs.Prelude.{◌≡◌, ◌∷◌, None, cond, IfOk, OnOk};
-ghost use Rattle.volume4d.specs.Bounds.{HasAll};
-ghost use Rattle.volume4d.specs.Slab.{slab_has, slabs_have, top_held};
-ghost use Rattle.desk_store.specs.Rivals.{AddsLevel};
+ghost use Rattle.volume4d.specs.Slab.{HasAll, slab_has, slabs_have, top_held};
+ghost use Rattle.desk_store.specs.World.{AddsLevel};
 ghost use Rattle.slab_regions.specs.Regions.{HaveEach};
 
 use std::alloc::{AllocError, Global};

@@ -1,9 +1,8 @@
 //! The slabs that a search for volumes is about.
 
 ghost use Rattle.std.specs.Prelude.{◌≡◌, true};
-ghost use Rattle.volume4d.specs.Point.{Point};
-ghost use Rattle.volume4d.specs.Slab.{slab_has};
-ghost use Rattle.slab_regions.specs.SearchArea as spec;
+ghost use Rattle.volume4d.specs.{Volume.Point, Slab.slab_has};
+ghost use Rattle.slab_regions.specs.Regions as spec;
 
 use std::slice;
 use volume4d::Slab;

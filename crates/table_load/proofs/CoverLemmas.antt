@@ -4,13 +4,11 @@ use Rattle.std.specs.List.{AllByRecursion}
 use Rattle.std.proofs.lemmas.List.{map-append}
 use Rattle.sqlite_value.specs.declared.value.Value.TheVariants.{Blob}
 use Rattle.sqlite_value.specs.Order.{Row, column}
-use Rattle.volume4d.specs.Volume.{Block}
-use Rattle.volume4d.specs.FootprintBytes.{HasValidParts, footprint_bytes}
-use Rattle.volume4d.specs.Shape.{Shape}
-use Rattle.desk_sql.specs.Volumes.{cover_part, volume_part}
-use Rattle.desk_store.specs.Content.{IsValidVolume}
-use Rattle.desk_store.specs.World.{Filed}
-use Rattle.table_load.specs.Covers.{AreCompared, HasCoverOf, HasItsCover}
+use Rattle.volume4d.specs.Volume.{Block, Shape}
+use Rattle.volume4d.specs.Footprint.{HasValidParts, footprint_bytes}
+use Rattle.desk_sql.specs.Rows.{cover_part, volume_part}
+use Rattle.desk_store.specs.World.{IsValidVolume, Filed}
+use Rattle.table_load.specs.Opening.{AreCompared, HasCoverOf, HasItsCover}
 use Rattle.row_codec.specs.RowsRead.{IsVolumeAt}
 use Rattle.row_codec.specs.Tables.{canon_bytes, rows_from, row_of_cover, row_of_volume, volume_rows_from, volume_rows, cover_rows}
 use Rattle.row_codec.proofs.lemmas.Order.{ArePlans}

@@ -7,26 +7,24 @@ use Rattle.sqlite.specs.State.{HasCleanDisk}
 use Rattle.sqlite.specs.Effect.{Database}
 use Rattle.sqlite.specs.Held.{Held, state}
 use Rattle.sqlite_value.specs.Order.{Row}
-use Rattle.volume4d.specs.FootprintBytes.{footprint_bytes, HasValidParts}
-use Rattle.volume4d.specs.Shape.{Shape}
+use Rattle.volume4d.specs.Footprint.{footprint_bytes, HasValidParts}
+use Rattle.volume4d.specs.Volume.{Shape}
 use Rattle.desk_sql.specs.declared.opening.finding.TablesPresent.{TablesPresent}
-use Rattle.desk_sql.specs.Effects.{IsOpenIfClean}
-use Rattle.desk_sql.specs.Finding.{Holds}
-use Rattle.desk_sql.specs.Frames.{OnlyReads}
-use Rattle.desk_sql.specs.Rows.{Lists, Tables, tables_at}
-use Rattle.desk_sql.specs.Volumes.{cover_part}
-use Rattle.desk_store.specs.Content.{IsContent}
-use Rattle.desk_store.specs.World.{Filed, Listed, World}
+use Rattle.desk_sql.specs.Effects.{IsOpenIfClean, Holds, OnlyReads}
+use Rattle.desk_sql.specs.Rows.{Lists, Tables, tables_at, cover_part}
+use Rattle.desk_store.specs.World.{IsContent, Filed, Listed, World}
 use Rattle.table_load.specs.declared.fault.OpenFault.{OpenFault}
 use Rattle.table_load.specs.declared.fault.OpenFault.TheVariants.{NotADesk, OldSchema, Store}
 use Rattle.table_load.specs.Moving.{AreNoOldContent, AreOldParts, AreSortedOld, HasNoNewRows, IsOldArea, IsOldContent, IsOldContentOf}
-use Rattle.table_load.specs.Opening.{AreAllRows, AreNoContent, AreParts, AreRows, AreSortedByKey, AreSortedHeads, BlamesReading, HasNewRows, IsContentOf}
+use Rattle.table_load.specs.Opening.{AreNoContent, AreParts, AreRows, AreSortedHeads, BlamesReading, HasNewRows, IsContentOf}
 use Rattle.table_load.specs.OpeningSteps.{IsRead}
 use Rattle.row_codec.specs.Tables.{AreSpanRows}
 use Rattle.table_load.proofs.lemmas.Assembly.{agreed, assembled, world_of}
 use Rattle.table_load.proofs.CoverLemmas.{covers_are}
 use Rattle.table_load.proofs.lemmas.KeyOrder.{are_old_rows, are_old_tables, are_rows, are_tables, heads_are, old_heads_are}
 use Rattle.table_load.proofs.lemmas.Opening.{no_old_rows}
+use Rattle.table_load.proofs.lemmas.KeyOrder.{AreAllRows}
+use Rattle.table_load.proofs.lemmas.KeyOrder.{AreSortedByKey}
 
 abbrev pub with_spans : Tables → List Row → Tables
 with_spans t rows = record t { spans = rows }

@@ -7,13 +7,12 @@ use Rattle.sqlite.specs.Effect.{Database}
 use Rattle.sqlite.specs.Held.{Held, state}
 use Rattle.desk_sql.specs.declared.opening.finding.TablesPresent.{TablesPresent}
 use Rattle.desk_sql.specs.declared.opening.finding.TablesPresent.TheVariants.{Nothing}
-use Rattle.desk_sql.specs.Finding.{Holds}
-use Rattle.desk_sql.specs.Frames.{OnlyReads}
+use Rattle.desk_sql.specs.Effects.{Holds, OnlyReads}
 use Rattle.desk_sql.specs.Rows.{IsMadeTo, Lists, Tables, has_old_rows, tables_at}
 use Rattle.desk_store.specs.World.{Filed}
 use Rattle.table_load.specs.declared.naming.InvalidPart.{InvalidPart}
 use Rattle.table_load.specs.Moving.{AreSortedOld, HasNoNewRows}
-use Rattle.table_load.specs.Naming.{AreGoodHeads, FailsAfter, FailsMade, FailsMoving, FailsNew, FailsOld, FailsOldSpans, FailsPart, FailsSpans, ShowsPartOf}
+use Rattle.table_load.specs.OpeningSteps.{AreGoodHeads, FailsAfter, FailsMade, FailsMoving, FailsNew, FailsOld, FailsOldSpans, FailsPart, FailsSpans, ShowsPartOf}
 use Rattle.table_load.specs.Opening.{AreSortedHeads, HasRowsOld}
 
 module _ {S : Type 0} (g : Ghosts S) where

@@ -3,20 +3,16 @@ use Rattle.std.proofs.Common.{◌≡◌, ◌≤◌, ℕ, List, length, IsTrue, i
 use Rattle.std.specs.List.Sorted.{IsStrictlySortedBy}
 use Rattle.sqlite_value.specs.declared.value.Value.TheVariants.{Text}
 use Rattle.sqlite_value.specs.Order.{Row, column}
-use Rattle.volume4d.specs.FootprintBytes.{footprint_bytes, HasValidParts}
-use Rattle.volume4d.specs.Shape.{Shape}
+use Rattle.volume4d.specs.Footprint.{footprint_bytes, HasValidParts}
+use Rattle.volume4d.specs.Volume.{Shape}
 use Rattle.desk_rules.specs.declared.plan.PlanRow.{PlanRow}
-use Rattle.desk_rules.specs.Limits.{max_priority}
-use Rattle.desk_rules.specs.Name.{is_operator_name}
+use Rattle.desk_rules.specs.Limits.{max_priority, is_operator_name}
 use Rattle.desk_sql.specs.Rows.{Tables}
-use Rattle.desk_store.specs.Content.{IsId}
-use Rattle.desk_store.specs.World.{Filed, Listed, listed_cmp, filed_cmp}
+use Rattle.desk_store.specs.World.{IsId, Filed, Listed, listed_cmp, filed_cmp}
 use Rattle.table_load.specs.declared.naming.InvalidPart.{InvalidPart}
 use Rattle.table_load.specs.declared.naming.InvalidPart.TheVariants.{Operator, Plan}
-use Rattle.table_load.specs.Naming.{FailsHeads, IsPlanHead}
-use Rattle.row_codec.specs.ContentRows.{AreOperatorRows, ArePlanRows}
-use Rattle.row_codec.specs.Records.{AreNumbersOf, IsKeyed}
-use Rattle.row_codec.specs.Tables.{id_text}
+use Rattle.table_load.specs.OpeningSteps.{FailsHeads, IsPlanHead}
+use Rattle.row_codec.specs.Tables.{AreOperatorRows, ArePlanRows, AreNumbersOf, IsKeyed, id_text}
 use Rattle.table_load.proofs.lemmas.Content.{one_operators, one_plans}
 use Rattle.row_codec.proofs.lemmas.Exact.{plan_row_is}
 use Rattle.row_codec.proofs.lemmas.Plan.{plans_within}

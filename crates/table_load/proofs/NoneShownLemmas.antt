@@ -6,13 +6,12 @@ use Rattle.sqlite.specs.Effect.{Database}
 use Rattle.sqlite.specs.State.{HasCleanDisk}
 use Rattle.sqlite.specs.Held.{Held, state}
 use Rattle.desk_sql.specs.declared.opening.finding.TablesPresent.{TablesPresent}
-use Rattle.desk_sql.specs.Finding.{Holds}
-use Rattle.desk_sql.specs.Frames.{OnlyReads}
+use Rattle.desk_sql.specs.Effects.{Holds, OnlyReads}
 use Rattle.desk_sql.specs.Rows.{IsMadeTo, tables_at, has_old_rows}
 use Rattle.table_load.specs.declared.fault.OpenFault.{OpenFault}
 use Rattle.table_load.specs.declared.fault.OpenFault.TheVariants.{NotADesk}
 use Rattle.table_load.specs.Opening.{HasRowsOld, ShowsNoDesk}
-use Rattle.table_load.specs.HeldContent.{AreNoContentIn, HoldsNone, ShowsNone}
+use Rattle.table_load.specs.Moving.{AreNoContentIn, HoldsNone, ShowsNone}
 
 none_held : (made : TablesPresent) (old : Bool) (db : Database) → IsMadeTo made db
     → has_old_rows (tables_at made db.trees) ≡ old → AreNoContentIn old (tables_at made db.trees)

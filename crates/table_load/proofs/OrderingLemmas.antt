@@ -8,15 +8,12 @@ use Rattle.sqlite.specs.Held.{Held, state}
 use Rattle.desk_sql.specs.declared.opening.finding.TablesPresent.{TablesPresent}
 use Rattle.desk_sql.specs.declared.opening.finding.TablesPresent.TheVariants.{Packed}
 use Rattle.desk_sql.specs.Rows.{Tables, tables_at, tables_of}
-use Rattle.desk_sql.specs.Effects.{Makes}
-use Rattle.desk_sql.specs.Frames.{OnlyReads, Remembers}
-use Rattle.desk_sql.specs.Finding.{Holds}
-use Rattle.desk_sql.specs.Unpacking.{RemakesTables}
+use Rattle.desk_sql.specs.Effects.{Makes, OnlyReads, Remembers, Holds}
+use Rattle.desk_sql.specs.Changing.{RemakesTables}
 use Rattle.desk_store.specs.World.{Filed, World}
 use Rattle.row_codec.specs.Tables.{plan_rows}
-use Rattle.table_load.specs.Opening.{IsContentOf}
+use Rattle.table_load.specs.Opening.{IsContentOf, AreAwaited, AreWritable, HasSpansToIndex, HaveFewRows, IsToOrder}
 use Rattle.table_load.specs.Moving.{HasAllTables, IsOldContentOf, RemovesOldRows}
-use Rattle.table_load.specs.Writable.{AreAwaited, AreWritable, HasSpansToIndex, HaveFewRows, IsToOrder}
 use Rattle.table_load.proofs.lemmas.Assembly.{filed_within}
 use Rattle.table_load.proofs.lemmas.Small.{small_old_spans, small_spans}
 use Rattle.table_load.proofs.lemmas.Writing.{FewCovers, writable}

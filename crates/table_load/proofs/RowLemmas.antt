@@ -13,9 +13,8 @@ use Rattle.sqlite_trees.specs.Tree.{IsAscending}
 use Rattle.sqlite_keyed.proofs.ListLemmas.{all_map, all_weaker, ascending-append}
 use Rattle.sqlite_keyed.proofs.SortLemmas.{sorted_unique}
 use Rattle.volume4d.specs.Volume.{Block}
-use Rattle.desk_store.specs.World.{Filed, Listed, text_cmp, listed_cmp, filed_cmp}
+use Rattle.desk_store.specs.World.{Filed, Listed, text_cmp, listed_cmp, filed_cmp, IsPlan}
 use Rattle.row_codec.specs.Tables.{id_text, row_of_operator, row_of_plan, plan_rows, row_of_volume, volume_rows_from, area_rows, volume_rows}
-use Rattle.desk_store.specs.Content.{IsPlan}
 use Rattle.row_codec.proofs.lemmas.Id.{text_order, then_then}
 use Rattle.row_codec.proofs.lemmas.Order.{after_key}
 

@@ -5,18 +5,16 @@ use Rattle.std.specs.List.{AllByRecursion}
 use Rattle.std.proofs.lemmas.List.Elements.{recursion_from_All}
 use Rattle.sqlite_value.specs.Order.{Row}
 use Rattle.s2_cover.specs.declared.spans.Span.{Span}
-use Rattle.s2_cover.specs.Ranges.{IsRanges}
+use Rattle.s2_cover.specs.Covers.{IsRanges}
 use Rattle.volume4d.specs.declared.slab.Slab.{Slab}
-use Rattle.volume4d.specs.Slab.{span_of, slab_window}
-use Rattle.volume4d.specs.Slabs.{AreVolumeSlabs}
+use Rattle.volume4d.specs.Slab.{span_of, slab_window, AreVolumeSlabs}
 use Rattle.volume4d.specs.Volume.{Block}
-use Rattle.desk_rules.specs.Plan.{is_live}
+use Rattle.desk_rules.specs.Outcome.{is_live}
 use Rattle.desk_store.specs.World.{Filed}
 use Rattle.row_codec.specs.SpanBounds.{IsKnownRow, Keeps}
 use Rattle.row_codec.specs.declared.span_bounds.SpanBounds.{SpanBounds}
-use Rattle.row_codec.specs.Records.{slab_row}
+use Rattle.row_codec.specs.Tables.{slab_row, row_of_span, AreSpanRowsFrom, AreSpanRows}
 use Rattle.table_load.specs.SpanChecks.{AreRestOf, AreAwaited, Awaits, AwaitsAlike, HasChecked, HasSlab, IsEntered, IsFound, IsNextRow, Place, after_plan}
-use Rattle.row_codec.specs.Tables.{row_of_span, AreSpanRowsFrom, AreSpanRows}
 use Rattle.row_codec.proofs.lemmas.Exact.{slabs_as_spans, cut_at}
 
 -- ---- one plan

@@ -1,26 +1,20 @@
--- How a content of schema 1 is moved to schema 2.
-use Rattle.std.specs.Prelude.{◌≡◌, ◌≤◌, ◌⊎◌, ⊤, ℕ, ◌-◌, ◌^◌, true, List, [], ◌∷◌, ◌++◌, length, nat_le, if◌then◌else◌, IsTrue, IsPermutation}
+-- How a content of schema 1 is moved to schema 2, and which content a database holds.
+use Rattle.std.specs.Prelude.{◌≡◌, ◌≤◌, ◌⊎◌, ⊤, ℕ, ◌-◌, ◌^◌, true, List, [], ◌∷◌, ◌++◌, length, nat_le, if◌then◌else◌, IsTrue, IsPermutation, Bool, false, filter}
 use Rattle.std.specs.List.{AllByRecursion}
 use Rattle.sqlite_trees.specs.declared.store.Store.{Ghosts}
 use Rattle.sqlite_value.specs.Order.{Row}
-use Rattle.s2_cover.specs.CanonicalList.{canonical_list}
-use Rattle.volume4d.specs.Shape.{Shape, cells, rectangle, shape_positions}
-use Rattle.volume4d.specs.Volume.{Block}
-use Rattle.sqlite.specs.Effect.{Database}
-use Rattle.sqlite.specs.State.{HasCleanDisk}
-use Rattle.sqlite.specs.Held.{Held, state}
+use Rattle.sqlite.specs.{Effect.Database, State.HasCleanDisk, Held.Held, Held.state}
+use Rattle.s2_cover.specs.Covers.{canonical_list}
+use Rattle.volume4d.specs.Volume.{Shape, cells, rectangle, shape_positions, Block}
+use Rattle.desk_rules.specs.Outcome.{is_live}
+use Rattle.desk_store.specs.World.{Filed, Listed, World, IsContent}
 use Rattle.desk_sql.specs.declared.opening.finding.TablesPresent.{TablesPresent}
-use Rattle.desk_sql.specs.Rows.{IsDesk, IsMadeTo, Tables, Lists, tables_of, tables_at, has_old_rows}
-use Rattle.desk_sql.specs.Effects.{ShowsAsBefore}
-use Rattle.desk_sql.specs.Finding.{HasOthers}
-use Rattle.desk_store.specs.World.{Filed, Listed, World}
-use Rattle.row_codec.specs.Tables.{operator_rows, plan_rows, area_rows, volume_rows, area_covers, cover_rows, ArePlanSpanRows, AreSpanRows}
-use Rattle.desk_store.specs.Content.{IsContent}
-use Rattle.table_load.specs.Standing.{IsDatabaseOf}
-use Rattle.table_load.specs.Opening.{AreParts, BeginsWith, HasNoContent}
+use Rattle.desk_sql.specs.{Rows.IsDesk, Rows.IsMadeTo, Rows.Tables, Rows.Lists, Rows.tables_of, Rows.tables_at, Rows.has_old_rows, Effects.ShowsAsBefore, Effects.HasOthers, Schema.blank_schema}
+use Rattle.row_codec.specs.{Tables.operator_rows, Tables.plan_rows, Tables.area_rows, Tables.volume_rows, Tables.area_covers, Tables.cover_rows, Tables.ArePlanSpanRows, Tables.AreSpanRows, SpanBounds.HaveSpanRows, SpanBounds.IsMostCells, SpanBounds.IsMostSpans}
+use Rattle.table_load.specs.Opening.{IsDatabaseOf, AreParts, BeginsWith, HasNoContent, IsContentOf, AreNoContent}
+use Rattle.table_load.specs.declared.looking.DbStats.{DbStats}
 
 -- ---- schema 1
-
 -- the most volumes of a plan, and the most cells of a rectangle's cover, in schema 1
 abbrev pub old_max_volumes : ℕ
 old_max_volumes = 8
@@ -78,7 +72,6 @@ pub record AreOldParts (t : Tables) (ls : List Listed) (ps : List Filed) : Type 
   pub areas : AllByRecursion (λ p. IsOldArea p.row.area) ps
 
 -- ---- the move
-
 -- the rows of a plan are added
 pub record AddsPlanRows (p : Filed) (old new : Tables) : Type 0 where
   pub operators : new.operators ≡ old.operators
@@ -87,8 +80,7 @@ pub record AddsPlanRows (p : Filed) (old new : Tables) : Type 0 where
   pub old_spans : new.old_spans ≡ old.old_spans
   pub with_volumes : IsPermutation (area_rows p ++ old.volumes) new.volumes
   pub with_covers : IsPermutation (area_covers p ++ old.covers) new.covers
-  pub with_spans :
-      (rows : List Row) × ArePlanSpanRows p rows × IsPermutation (rows ++ old.spans) new.spans
+  pub with_spans : (rows : List Row) × ArePlanSpanRows p rows × IsPermutation (rows ++ old.spans) new.spans
 
 -- the rows of plans are added
 pub record AddsPlansRows (ps : List Filed) (old new : Tables) : Type 0 where
@@ -98,8 +90,7 @@ pub record AddsPlansRows (ps : List Filed) (old new : Tables) : Type 0 where
   pub old_spans : new.old_spans ≡ old.old_spans
   pub with_volumes : IsPermutation (volume_rows ps ++ old.volumes) new.volumes
   pub with_covers : IsPermutation (cover_rows ps ++ old.covers) new.covers
-  pub with_spans :
-      (rows : List Row) × AreSpanRows ps rows × IsPermutation (rows ++ old.spans) new.spans
+  pub with_spans : (rows : List Row) × AreSpanRows ps rows × IsPermutation (rows ++ old.spans) new.spans
 
 -- the rows of schema 1 are removed
 abbrev pub RemovesOldRows : Tables → Tables → Type 0
@@ -113,8 +104,7 @@ pub record MovesRows (ps : List Filed) (old new : Tables) : Type 0 where
   pub old_spans : new.old_spans ≡ []
   pub with_volumes : IsPermutation (volume_rows ps ++ old.volumes) new.volumes
   pub with_covers : IsPermutation (cover_rows ps ++ old.covers) new.covers
-  pub with_spans :
-      (rows : List Row) × AreSpanRows ps rows × IsPermutation (rows ++ old.spans) new.spans
+  pub with_spans : (rows : List Row) × AreSpanRows ps rows × IsPermutation (rows ++ old.spans) new.spans
 
 -- the rows of plans come in the place of those of `volume2` and `span2`, and the rows of the others stay
 pub record OrdersRows (ps : List Filed) (old new : Tables) : Type 0 where
@@ -133,7 +123,6 @@ pub record HasAllTables {S : Type 0} (g : Ghosts S) (made : TablesPresent) (old 
   pub same : tables_of (state g new).now.trees ≡ tables_at made (state g old).now.trees
 
 -- ---- what a store begins with
-
 -- there were rows of schema 1, of this world; all are those of schema 2 now
 pub record WasMoved {S : Type 0} (g : Ghosts S) (old new : Held S) (w : World) : Type 0 where
   pub made : TablesPresent
@@ -154,8 +143,7 @@ abbrev pub reported_count : List Filed → ℕ
 reported_count ps = if nat_le (length ps) (2 ^ 32 - 1) then length ps else 2 ^ 32 - 1
 
 module _ {S : Type 0} (g : Ghosts S) (old new : Held S) where
-  -- over a connection that is open and a clean disk, a store of this world begins, and so many plans were
-  -- moved
+  -- over an open connection and a clean disk, a store of this world begins, and so many plans were moved
   abbrev pub BeginsMoved : World → ℕ → Type 0
   BeginsMoved w count =
       HasCleanDisk (state g new) → IsTrue (state g new).is_open →
@@ -180,3 +168,47 @@ module _ {S : Type 0} (g : Ghosts S) (old new : Held S) where
   abbrev pub KeepsRows : Type 0
   KeepsRows =
       HasCleanDisk (state g new) → IsTrue (state g new).is_open → ShowsAsBefore g old new ⊎ HasSameRows
+
+-- ==== The content that a database holds, in schema 1 or in schema 2
+-- the rows of this content, in schema 1 or in schema 2
+abbrev pub IsContentIn : Bool → Tables → World → Type 0
+IsContentIn true tables w = IsOldContentOf tables w
+IsContentIn false tables w = IsContentOf tables w
+
+-- the rows are those of no valid state in this schema
+abbrev pub AreNoContentIn : Bool → Tables → Type 0
+AreNoContentIn true tables = AreNoOldContent tables
+AreNoContentIn false tables = AreNoContent tables
+
+-- the tables that are made, with the rows of this content: in schema 1 if that has rows, else in schema 2
+pub record HoldsContent (old : Bool) (w : World) (db : Database) : Type 0 where
+  pub made : TablesPresent
+  pub desk : IsMadeTo made db
+  pub schema : has_old_rows (tables_at made db.trees) ≡ old
+  pub rows : IsContentIn old (tables_at made db.trees) w
+
+-- no table at all, other tables than the schema's, or rows of no valid state in either schema
+abbrev pub HoldsNone : Database → Type 0
+HoldsNone db = (db.schema ≡ blank_schema) ⊎ (HasOthers db ⊎ (HasNoContent db ⊎ HasNoOldContent db))
+
+-- how many plans are not closed
+abbrev pub live_count : List Filed → ℕ
+live_count ps = length (filter (λ p. is_live p.row.usage) ps)
+
+-- these are the statistics of the state `w`, whatever `is_old` says
+pub record AreStatsOf (h : DbStats) (w : World) : Type 0 where
+  pub operators : h.operators ≡ length w.operators
+  pub plans : h.plans ≡ length w.plans
+  pub live : h.live ≡ live_count w.plans
+  pub spans : HaveSpanRows w.plans h.spans
+  pub most_spans : IsMostSpans w.plans h.most_spans
+  pub most_cells : IsMostCells w.plans h.most_cells
+
+module _ {S : Type 0} (g : Ghosts S) (old new : Held S) where
+  -- over a clean disk and an open connection, what was shown is no valid state
+  abbrev pub ShowsNone : Type 0
+  ShowsNone = HasCleanDisk (state g new) → IsTrue (state g new).is_open → HoldsNone (state g old).now
+
+  -- over a clean disk, what was shown has the rows of this content
+  abbrev pub ShowsContent : Bool → World → Type 0
+  ShowsContent schema w = HasCleanDisk (state g new) → HoldsContent schema w (state g old).now

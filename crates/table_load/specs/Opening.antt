@@ -1,35 +1,54 @@
--- What all rows of the schema's tables stand for, and what a store over a connection begins with.
-use Rattle.std.specs.Prelude.{◌≡◌, ◌≢◌, ℕ, ◌⊎◌, Bool, true, false, List, [], ◌∷◌, codes}
-use Rattle.std.specs.Prelude.{if◌then◌else◌, IsSome, IsTrue}
-use Rattle.std.specs.List.Sorted.{IsStrictlySortedBy}
+-- What all rows of the schema's tables stand for, and what a store over them begins with.
+use Rattle.std.specs.Prelude.{◌≡◌, ◌↔◌, Bool, List, map, IsTrue, false, None, ◌≢◌, ℕ, ◌⊎◌, true, [], ◌∷◌, codes, if◌then◌else◌, IsSome, ◌<◌, ◌^◌, length, IsPermutation}
+use Rattle.std.specs.{List.AllByRecursion, List.Sorted.IsStrictlySortedBy}
+use Rattle.sqlite_value.specs.declared.value.Value.TheVariants.{Blob}
+use Rattle.sqlite_value.specs.Order.{Row, column}
 use Rattle.sqlite_trees.specs.declared.store.Store.{Ghosts}
-use Rattle.sqlite_value.specs.Order.{Row}
-use Rattle.sqlite.specs.declared.error.Error.{Error}
-use Rattle.sqlite.specs.declared.error.Error.TheVariants.{SqliteFailure}
+use Rattle.sqlite.specs.{State.HasCleanDisk, Held.Held, Held.state, Effect.Database}
+use Rattle.sqlite.specs.declared.error.{Error.Error, Error.TheVariants.SqliteFailure}
 use Rattle.sqlite.specs.declared.error.ErrorCode.TheVariants as code
-use Rattle.sqlite.specs.Effect.{Database}
-use Rattle.sqlite.specs.State.{HasCleanDisk}
-use Rattle.sqlite.specs.Held.{Held, state}
-use Rattle.desk_sql.specs.Schema.{blank_schema}
-use Rattle.desk_sql.specs.Finding.{HasOthers}
-use Rattle.desk_sql.specs.declared.opening.finding.TablesPresent.{TablesPresent}
-use Rattle.desk_sql.specs.declared.opening.finding.TablesPresent.TheVariants.{All, Packed}
-use Rattle.desk_sql.specs.Rows.{IsDesk, IsMadeTo, Tables, Lists, tables_of, tables_at, has_old_rows}
-use Rattle.desk_sql.specs.Refusals.{HasDiskFailed, IsMisnumbered}
-use Rattle.desk_sql.specs.Volumes.{ListVolumes}
-use Rattle.desk_sql.specs.Effects.{ShowsAsBefore}
-use Rattle.desk_store.specs.World.{Filed, Listed, World, listed_cmp, filed_cmp}
-use Rattle.row_codec.specs.Tables.{operator_rows, plan_rows, volume_rows, cover_rows, AreSpanRows}
-use Rattle.row_codec.specs.Tables.{AreTables}
-use Rattle.desk_store.specs.Content.{IsContent}
+use Rattle.volume4d.specs.Volume.{Block}
+use Rattle.desk_store.specs.World.{IsValidVolume, World, IsContent, Filed, Listed, listed_cmp, filed_cmp}
+use Rattle.desk_sql.specs.{Rows.volume_part, Rows.IsDesk, Rows.tables_of, Rows.IsMadeTo, Rows.Tables, Rows.Lists, Rows.tables_at, Rows.has_old_rows, Rows.ListVolumes, Schema.blank_schema, Effects.HasOthers, Effects.ShowsAsBefore, Statements.HasDiskFailed, Statements.IsMisnumbered, Changing.HasKey, Changing.IsShort, Changing.LacksKey, Changing.HasSmallSpans}
+use Rattle.desk_sql.specs.declared.opening.finding.{TablesPresent.TablesPresent, TablesPresent.TheVariants.All, TablesPresent.TheVariants.Packed}
+use Rattle.desk_changes.specs.RowChanges.{AreNewSpans, AreNewVolumes, HasRoomFor, HaveOwnKeys}
+use Rattle.row_codec.specs.RowsRead.{IsVolumeAt}
+use Rattle.row_codec.specs.Tables.{canon_bytes, AreTables, operator_rows, plan_rows, volume_rows, cover_rows, AreSpanRows, AreOperatorRows, ArePlanRows, HaveOperatorsAndRoom, IsFiled, row_of_operator}
 use Rattle.row_codec.specs.declared.exact.RowFault.{RowFault}
 use Rattle.row_codec.specs.declared.exact.RowFault.TheVariants as row
-use Rattle.table_load.specs.declared.fault.OpenFault.{OpenFault}
-use Rattle.table_load.specs.declared.fault.OpenFault.TheVariants.{OutOfMemory, Store, NotADesk, OldSchema}
-use Rattle.table_load.specs.Covers.{AreCompared}
-use Rattle.table_load.specs.Standing.{IsDatabaseOf}
-use Rattle.row_codec.specs.ContentRows.{AreOperatorRows, ArePlanRows, HaveOperatorsAndRoom}
+use Rattle.table_load.specs.declared.fault.{OpenFault.OpenFault, OpenFault.TheVariants.OutOfMemory, OpenFault.TheVariants.Store, OpenFault.TheVariants.NotADesk, OpenFault.TheVariants.OldSchema}
 
+-- a row has the cover of a volume
+abbrev pub HasCoverOf : Block → Row → Type 0
+HasCoverOf v row = column row 8 ≡ Blob (canon_bytes v.footprint)
+
+-- a row has a valid volume, and the canonical cover of that
+pub record HasItsCover (row : Row) : Type 0 where
+  pub volume : Block
+  pub within : IsValidVolume volume
+  pub there : IsVolumeAt row 3 volume
+  pub cover : HasCoverOf volume row
+
+-- rows were compared: `volumes` are these rows without their covers, and `agree` says whether each had the
+-- cover of its volume
+pub record AreCompared (volumes : List Row) (agree : Bool) (rows : List Row) : Type 0 where
+  pub volumes_are : volumes ≡ map volume_part rows
+  pub agreed : IsTrue agree ↔ AllByRecursion HasItsCover rows
+
+-- the database has the desk's tables, and their rows are those of the world
+pub record IsDatabaseOf {S : Type 0} (g : Ghosts S) (h : Held S) (w : World) : Type 0 where
+  pub content : IsContent w
+  pub desk : IsDesk (state g h).now
+  pub tables : AreTables (tables_of (state g h).now.trees) w
+
+-- while the disk has returned what was written and no fault has shut the connection, the database has the
+-- rows of `w`; no transaction is begun, and the connection has no step limit
+pub record Stands {S : Type 0} (g : Ghosts S) (h : Held S) (w : World) : Type 0 where
+  pub settled : h.in_transaction ≡ false
+  pub unlimited : h.step_limit ≡ None
+  pub standing : HasCleanDisk (state g h) → IsTrue (state g h).is_open → IsDatabaseOf g h w
+
+-- ==== What all rows of the schema's tables stand for, and what a store over a connection begins with
 -- why a store cannot be opened
 abbrev pub open_fault_text : OpenFault → List ℕ
 open_fault_text OutOfMemory = codes "out of memory"
@@ -51,15 +70,6 @@ fault_of_rows row.OutOfMemory = OutOfMemory
 fault_of_rows row.InvalidRows = NotADesk
 
 -- ---- rows in the order of their keys
-
--- operators by name, plans by operator and id, each operator's plans few, and these rows of spans are the
--- plans'
-pub record AreAgreed (ls : List Listed) (ps : List Filed) (rows : List Row) : Type 0 where
-  pub names : IsStrictlySortedBy listed_cmp ls
-  pub keys : IsStrictlySortedBy filed_cmp ps
-  pub shared : HaveOperatorsAndRoom ls ps
-  pub spans : AreSpanRows ps rows
-
 -- the tables, each in the order of its key, have the rows of the world in that order, but for the covers
 pub record AreRows (t : Tables) (w : World) : Type 0 where
   pub operator_part : t.operators ≡ operator_rows w
@@ -67,21 +77,7 @@ pub record AreRows (t : Tables) (w : World) : Type 0 where
   pub volume_part : t.volumes ≡ volume_rows w.plans
   pub span_part : AreSpanRows w.plans t.spans
 
--- and also its covers
-pub record AreAllRows (t : Tables) (w : World) : Type 0 where
-  pub rows : AreRows t w
-  pub covers : t.covers ≡ cover_rows w.plans
-
--- the tables, each put in the order of its key
-pub record AreSortedByKey (t rows : Tables) : Type 0 where
-  pub operator_part : Lists (0 ∷ []) t.operators rows.operators
-  pub plan_part : Lists (0 ∷ 1 ∷ []) t.plans rows.plans
-  pub volume_part : Lists (0 ∷ 1 ∷ 2 ∷ []) t.volumes rows.volumes
-  pub cover_part : Lists (0 ∷ 1 ∷ 2 ∷ []) t.covers rows.covers
-  pub span_part : Lists (0 ∷ 1 ∷ 2 ∷ 3 ∷ []) t.spans rows.spans
-
--- the tables but for spans, each put in the order of its key, without the covers; and whether each of these
--- is that of the volume in its row
+-- the tables but for spans, in key order, without covers; and whether each cover is that of its row's volume
 pub record AreSortedHeads (t rows : Tables) (covered : Bool) : Type 0 where
   pub operator_part : Lists (0 ∷ []) t.operators rows.operators
   pub plan_part : Lists (0 ∷ 1 ∷ []) t.plans rows.plans
@@ -102,7 +98,6 @@ pub record AreParts (t : Tables) (ls : List Listed) (ps : List Filed) : Type 0 w
   pub order : AreListedInOrder ls ps
 
 -- ---- what a store begins with
-
 -- the tables are a content's
 pub record IsContentOf (t : Tables) (w : World) : Type 0 where
   pub content : IsContent w
@@ -135,8 +130,7 @@ pub record WasCompleted {S : Type 0} (g : Ghosts S) (old new : Held S) (w : Worl
   pub whole : IsDesk (state g new).now
   pub same : tables_of (state g new).now.trees ≡ tables_at made (state g old).now.trees
 
--- the tables came before all indexes, with the rows of the world; they are in canonical order now, with
--- these rows
+-- the tables came before all indexes, with the world's rows; they are in canonical order now, with these rows
 pub record WasOrdered {S : Type 0} (g : Ghosts S) (old new : Held S) (w : World) : Type 0 where
   pub part : IsMadeTo Packed (state g old).now
   pub rows : IsContentOf (tables_at Packed (state g old).now.trees) w
@@ -186,11 +180,9 @@ module _ {S : Type 0} (g : Ghosts S) (old new : Held S) where
   abbrev pub IsHindered : Type 0
   IsHindered = HasDiskFailed g old new ⊎ IsSome old.step_limit
 
-  -- over an open connection, `Store` is answered only if the disk failed or the steps of a statement
-  -- are limited
+  -- over an open connection, `Store` is answered only if the disk failed or a statement's steps are limited
   abbrev pub BlamesReading : OpenFault → Type 0
-  BlamesReading e =
-      HasCleanDisk (state g new) → IsTrue (state g new).is_open → e ≡ Store → IsHindered
+  BlamesReading e = HasCleanDisk (state g new) → IsTrue (state g new).is_open → e ≡ Store → IsHindered
 
   -- the same of an opening, a migration or a look; or a rowid of the database is invalid
   abbrev pub BlamesDatabase : OpenFault → Type 0
@@ -203,3 +195,72 @@ module _ {S : Type 0} (g : Ghosts S) (old new : Held S) where
   BlamesDisk e =
       HasCleanDisk (state g new) → IsTrue (state g new).is_open → e ≡ Store →
       HasDiskFailed g old new ⊎ IsMisnumbered (state g old).now
+
+-- ==== What plans have to be, so that their rows are refused by nothing but memory, the disk and a limit on
+-- steps
+
+-- fewer than 2 ^ 63 rows of volumes, and of spans
+pub record HaveFewRows (ps : List Filed) : Type 0 where
+  pub volumes : length (volume_rows ps) < 2 ^ 63
+  pub spans : List Row
+  pub are : AreSpanRows ps spans
+  pub few : length spans < 2 ^ 63
+
+-- the rows of these plans in `volume2` and `span2` can be added, those of one plan after those of the other
+pub record AreWritable (ps : List Filed) (db : Database) : Type 0 where
+  pub volumes : AreNewVolumes (volume_rows ps) (cover_rows ps) db
+  pub spans : List Row
+  pub are : AreSpanRows ps spans
+  pub new : AreNewSpans spans db
+
+-- plans are within the limits, each with a key of its own, and only their rows in `plan` are there
+pub record AreAwaited (ps : List Filed) (t : Tables) : Type 0 where
+  pub within : AllByRecursion IsFiled ps
+  pub keys : IsStrictlySortedBy filed_cmp ps
+  pub few : HaveFewRows ps
+  pub plans : IsPermutation (plan_rows ps) t.plans
+  pub volumes : t.volumes ≡ []
+  pub spans : t.spans ≡ []
+
+-- ---- a content that is written into tables without rows
+-- rows that can be added one after the other: there is room, and no row has their keys
+pub record AreNewKeys (width : ℕ) (rows stored shown : List Row) : Type 0 where
+  pub room : HasRoomFor (length rows) stored
+  pub apart : HaveOwnKeys width rows
+  pub free : AllByRecursion (λ r. LacksKey width r shown) rows
+
+-- rows of operators can be added: none has the name of one that is there
+pub record AreNewOperators (ls : List Listed) (db : Database) : Type 0 where
+  pub names : AllByRecursion (λ l. IsShort l.name) ls
+  pub new : AreNewKeys 1 (map row_of_operator ls) (db.trees 0) (tables_of db.trees).operators
+
+-- rows of plans can be added to `plan`: none has the key of one that is there, and their operators are there
+pub record AreNewHeads (ps : List Filed) (db : Database) : Type 0 where
+  pub names : AllByRecursion (λ p. IsShort p.operator) ps
+  pub new : AreNewKeys 2 (plan_rows ps) (db.trees 2) (tables_of db.trees).plans
+  pub listed : AllByRecursion (λ r. HasKey 1 r (tables_of db.trees).operators) (plan_rows ps)
+
+-- the tables have no row, and the state `w` has fewer than 2 ^ 63 rows for each
+pub record CanBeFilled (w : World) (db : Database) : Type 0 where
+  pub content : IsContent w
+  pub operators : length w.operators < 2 ^ 63
+  pub plans : length w.plans < 2 ^ 63
+  pub few : HaveFewRows w.plans
+  pub no_operators : (tables_of db.trees).operators ≡ []
+  pub no_plans : (tables_of db.trees).plans ≡ []
+  pub no_volumes : (tables_of db.trees).volumes ≡ []
+  pub no_spans : (tables_of db.trees).spans ≡ []
+
+-- ---- what the tables have then
+-- rows of spans that have entries in the indexes over leaves
+abbrev pub HasSpansToIndex : TablesPresent → Database → Type 0
+HasSpansToIndex made db = HasSmallSpans (tables_at made db.trees)
+
+-- without the rows of `volume2` and `span2`
+abbrev pub blanked : Tables → Tables
+blanked t = record t { volumes = []; covers = []; spans = [] }
+
+-- a packed file, of which the rows of these plans are to be written anew
+pub record IsToOrder (ps : List Filed) (db : Database) : Type 0 where
+  pub indexed : HasSpansToIndex Packed db
+  pub awaited : AreAwaited ps (blanked (tables_of db.trees))

@@ -3,11 +3,9 @@ use Rattle.std.specs.Prelude.{◌≡◌, ◌↔◌, ◌<◌, ◌^◌, ℕ, ◌+�
 use Rattle.std.specs.List.{AllByRecursion}
 use Rattle.sqlite_value.specs.Order.{Row}
 use Rattle.volume4d.specs.declared.slab.Slab.{Slab}
-use Rattle.desk_rules.specs.Plan.{is_live}
+use Rattle.desk_rules.specs.Outcome.{is_live}
 use Rattle.desk_store.specs.World.{Filed}
-use Rattle.row_codec.specs.Records.{slab_row}
-use Rattle.row_codec.specs.SpanBounds.{IsKnownRow}
-use Rattle.row_codec.specs.Tables.{AreSpanRowsFrom, AreSpanRows}
+use Rattle.row_codec.specs.{Tables.slab_row, Tables.AreSpanRowsFrom, Tables.AreSpanRows, SpanBounds.IsKnownRow}
 use Rattle.row_codec.specs.declared.span_bounds.SpanBounds.{SpanBounds}
 
 -- rows are those of the plan's slabs that are left: `slabs`, of the volume at `shown`, and then those of the
@@ -74,8 +72,7 @@ IsEntered p old new found = MatchBool found
     ((new.plan ≡ old.plan) × (is_live p.row.usage ≡ true) × (new.next < length new.slabs))
     (new.plan ≡ old.plan + 1)
 
--- if `is`, `row` is the next of the rows to come, and the cursor has moved past it; else no rows to come
--- begin with it
+-- if `is`, `row` is the next row to come, and the cursor has passed it; else no rows to come begin with it
 abbrev pub IsNextRow : List Filed → Place → Place → Row → Bool → Type 0
 IsNextRow ps old new row is = MatchBool is
     ((rest : List Row) → Awaits ps old (row ∷ rest) ↔ Awaits ps new rest)

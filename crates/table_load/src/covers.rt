@@ -3,16 +3,10 @@
 
 ghost use Rattle.std.specs.Prelude.{◌≡◌, ◌≢◌, ◌↔◌, ◌++◌, [], ◌∷◌, List, map, IsTrue, IfOk, IfErr, OnOk};
 ghost use Rattle.sqlite_value.specs.declared.value.Value.TheVariants.{Blob};
-ghost use Rattle.sqlite_value.specs.Value.{owned};
-ghost use Rattle.sqlite_value.specs.Order.{Row as Columns, column};
-ghost use Rattle.sqlite.specs.State.{HasCleanDisk};
-ghost use Rattle.sqlite.specs.Held.{state};
-ghost use Rattle.desk_sql.specs.Effects.{IsReady, StaysOpen};
-ghost use Rattle.desk_sql.specs.Frames.{OnlyReads};
-ghost use Rattle.desk_sql.specs.Rows.{IsMadeTo, tables_at};
-ghost use Rattle.desk_sql.specs.Volumes.{ListVolumes};
-ghost use Rattle.table_load.specs.Covers.{AreCompared, HasCoverOf, HasItsCover};
-ghost use Rattle.table_load.specs.Opening.{BlamesReading};
+ghost use Rattle.sqlite_value.specs.{Value.owned, Order.Row as Columns, Order.column};
+ghost use Rattle.sqlite.specs.{State.HasCleanDisk, Held.state};
+ghost use Rattle.desk_sql.specs.{Effects.IsReady, Effects.StaysOpen, Effects.OnlyReads, Rows.IsMadeTo, Rows.tables_at, Rows.ListVolumes};
+ghost use Rattle.table_load.specs.Opening.{AreCompared, HasCoverOf, HasItsCover, BlamesReading};
 
 use crate::fault::OpenFault;
 use crate::spans::fault_of;
@@ -68,9 +62,8 @@ impl CoverCheck {
 
 impl RowVisitor for CoverCheck {
     ghost use Rattle.std.specs.Prelude.{◌≡◌, ⊤};
-    ghost use Rattle.sqlite.specs.declared.error.Error.TheVariants.{SqliteFailure};
-    ghost use Rattle.sqlite.specs.declared.error.ErrorCode.TheVariants.{OutOfMemory};
-    ghost use Rattle.table_load.specs.Covers.{AreCompared};
+    ghost use Rattle.sqlite.specs.declared.error.{Error.TheVariants.SqliteFailure, ErrorCode.TheVariants.OutOfMemory};
+    ghost use Rattle.table_load.specs.Opening.{AreCompared};
 
     ghost has_taken = { λ c rows. AreCompared c.volumes.items c.agree rows };
 

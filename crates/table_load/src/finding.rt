@@ -2,28 +2,12 @@
 
 ghost use Rattle.std.specs.Prelude.{◌≡◌, ◌≢◌, ◌↔◌, ◌<◌, ◌^◌, List, [], length, true, false, IfOk, IfErr, OnOk, IsTrue, None, ◌≤◌};
 ghost use Rattle.sqlite_value.specs.Order.{Row as Values};
-ghost use Rattle.sqlite.specs.State.{HasCleanDisk};
-ghost use Rattle.sqlite.specs.Held.{state};
-ghost use Rattle.desk_sql.specs.QueryEnds.{WasOpen};
-ghost use Rattle.desk_sql.specs.Rows.{IsMadeTo, tables_at};
-ghost use Rattle.desk_sql.specs.Effects.{IsOpenIfClean, StaysShown};
-ghost use Rattle.desk_sql.specs.Frames.{OnlyReads};
-ghost use Rattle.desk_sql.specs.Finding.{Holds};
-ghost use Rattle.desk_store.specs.World.{World};
-ghost use Rattle.desk_store.specs.Content.{IsContent};
-ghost use Rattle.table_load.specs.CutShort.{IsCompletedAs, MayBecome};
-ghost use Rattle.row_codec.specs.Known.{Knows};
-ghost use Rattle.table_load.specs.Writable.{HaveFewRows};
-ghost use Rattle.row_codec.specs.SpanBounds.{IsKnownRow, Keeps};
-ghost use Rattle.table_load.specs.Opening.{IsContentOf, AreNoContent};
-ghost use Rattle.row_codec.specs.Tables.{AreSpanRows, volume_rows};
-ghost use Rattle.table_load.specs.SpansHeld.{WereCompared};
-ghost use Rattle.table_load.specs.Opening.{AreListedInOrder, AreParts, AreRows, AreSortedHeads};
-ghost use Rattle.table_load.specs.Opening.{BeginsWith, HasRowsOld, HasNewRows};
-ghost use Rattle.table_load.specs.Opening.{ShowsNoDesk, ShowsOldRows};
-ghost use Rattle.table_load.specs.Opening.{BlamesReading, BlamesDatabase};
-ghost use Rattle.table_load.specs.OpeningSteps.{BeginsCompleted, HadNone, IsOpening, IsRead, IsSetUp};
-ghost use Rattle.table_load.specs.OpeningSteps.{IsAtRest, ShowsOperators, ShowsPart};
+ghost use Rattle.sqlite.specs.{State.HasCleanDisk, Held.state};
+ghost use Rattle.desk_sql.specs.{Queries.WasOpen, Rows.IsMadeTo, Rows.tables_at, Effects.IsOpenIfClean, Effects.StaysShown, Effects.OnlyReads, Effects.Holds};
+ghost use Rattle.desk_store.specs.World.{World, IsContent};
+ghost use Rattle.table_load.specs.OpeningSteps.{IsCompletedAs, MayBecome, WereCompared, BeginsCompleted, HadNone, IsOpening, IsRead, IsSetUp, IsAtRest, ShowsOperators, ShowsPart};
+ghost use Rattle.row_codec.specs.{SpanBounds.Knows, SpanBounds.IsKnownRow, SpanBounds.Keeps, Tables.AreSpanRows, Tables.volume_rows};
+ghost use Rattle.table_load.specs.Opening.{HaveFewRows, IsContentOf, AreNoContent, AreListedInOrder, AreParts, AreRows, AreSortedHeads, BeginsWith, HasRowsOld, HasNewRows, ShowsNoDesk, ShowsOldRows, BlamesReading, BlamesDatabase};
 
 use crate::covers::{CoverCheck, take_volumes};
 use crate::fault::OpenFault;

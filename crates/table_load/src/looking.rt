@@ -1,17 +1,12 @@
 //! Statistics of a database in either schema, which is only read.
 
 ghost use Rattle.std.specs.Prelude.{◌≡◌, ◌≢◌, false, IfOk, IfErr};
-ghost use Rattle.desk_rules.specs.Plan.{is_live};
-ghost use Rattle.desk_sql.specs.Frames.{OnlyReads};
-ghost use Rattle.desk_sql.specs.Finding.{Holds};
-ghost use Rattle.desk_store.specs.World.{World};
-ghost use Rattle.desk_store.specs.Content.{IsContent};
-ghost use Rattle.row_codec.specs.Known.{Knows};
-ghost use Rattle.table_load.specs.Opening.{BlamesDatabase, HasRowsOld};
-ghost use Rattle.table_load.specs.OpeningSteps.{IsRead, ShowsPart};
-ghost use Rattle.table_load.specs.Writable.{HaveFewRows};
-ghost use Rattle.table_load.specs.HeldContent as spec;
-ghost use Rattle.table_load.specs.HeldContent.{AreStatsOf, AreNoContentIn, IsContentIn, ShowsContent, ShowsNone};
+ghost use Rattle.desk_rules.specs.Outcome.{is_live};
+ghost use Rattle.desk_sql.specs.Effects.{OnlyReads, Holds};
+ghost use Rattle.desk_store.specs.World.{World, IsContent};
+ghost use Rattle.row_codec.specs.SpanBounds.{Knows};
+ghost use Rattle.table_load.specs.{Opening.BlamesDatabase, Opening.HasRowsOld, Opening.HaveFewRows, OpeningSteps.IsRead, OpeningSteps.ShowsPart, Moving.AreStatsOf, Moving.AreNoContentIn, Moving.IsContentIn, Moving.ShowsContent, Moving.ShowsNone};
+ghost use Rattle.table_load.specs.Moving as spec;
 
 use crate::fault::OpenFault;
 use crate::finding::{find_desk_tables, load_content};

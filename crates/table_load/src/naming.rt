@@ -4,17 +4,11 @@
 ghost use Rattle.std.specs.Prelude.{◌≡◌, ◌≢◌, ◌⊎◌, List, true, false, IfErr, IfOk, IfSome, OnOk};
 ghost use Rattle.sqlite_value.specs.Order.{Row as Values};
 ghost use Rattle.sqlite_wal.specs.Files.{image_at};
-ghost use Rattle.sqlite.specs.Files.{over_files};
-ghost use Rattle.sqlite.specs.Held.{IsNew};
-ghost use Rattle.desk_sql.specs.Frames.{OnlyReads};
-ghost use Rattle.desk_sql.specs.Rows.{tables_at};
+ghost use Rattle.sqlite.specs.{Files.over_files, Held.IsNew};
+ghost use Rattle.desk_sql.specs.{Effects.OnlyReads, Rows.tables_at};
 ghost use Rattle.table_load.specs.Files.{IsUnreached};
-ghost use Rattle.table_load.specs.Naming as spec;
-ghost use Rattle.table_load.specs.Naming.{AreGoodHeads, ArePlanHeads, FailsHeads, FailsOldSpans, FailsSpans};
-ghost use Rattle.table_load.specs.Naming.{FailsMoving, FailsNew, FailsOld, FailsPart};
-ghost use Rattle.table_load.specs.Naming.{IsPlanHead, NamesIn, ShowsPartOf};
-ghost use Rattle.table_load.specs.SpansHeld.{WereCompared};
-ghost use Rattle.table_load.specs.OpeningSteps.{ShowsOperators, ShowsPart};
+ghost use Rattle.table_load.specs.OpeningSteps as spec;
+ghost use Rattle.table_load.specs.OpeningSteps.{AreGoodHeads, ArePlanHeads, FailsHeads, FailsOldSpans, FailsSpans, FailsMoving, FailsNew, FailsOld, FailsPart, IsPlanHead, NamesIn, ShowsPartOf, WereCompared, ShowsOperators, ShowsPart};
 
 use crate::connecting::connect_to_existing;
 use crate::fault::OpenFault;

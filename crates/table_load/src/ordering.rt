@@ -1,18 +1,11 @@
 //! How the tables of a packed file, which come before all indexes, are rebuilt in canonical order.
 
 ghost use Rattle.std.specs.Prelude.{◌≡◌, ◌≢◌, IfOk, IfErr, OnOk, OnErr, None};
-ghost use Rattle.sqlite.specs.State.{HasCleanDisk};
-ghost use Rattle.sqlite.specs.Held.{state};
-ghost use Rattle.desk_sql.specs.Effects.{Commits, MayMake, StaysShown};
-ghost use Rattle.desk_sql.specs.Finding.{Holds};
-ghost use Rattle.desk_sql.specs.Frames.{IsOver};
-ghost use Rattle.desk_sql.specs.Unpacking.{RemakesTables};
-ghost use Rattle.table_load.specs.CutShort.{IsCompletedAs, MayBecome};
-ghost use Rattle.row_codec.specs.Known.{Knows};
-ghost use Rattle.table_load.specs.Moving.{OrdersRows};
-ghost use Rattle.table_load.specs.Opening.{BlamesReading, HasNewRows};
-ghost use Rattle.table_load.specs.OpeningSteps.{BeginsOrdered, HadNone, IsSetUp, ShowsPart};
-ghost use Rattle.table_load.specs.Writable.{HasSpansToIndex, IsToOrder};
+ghost use Rattle.sqlite.specs.{State.HasCleanDisk, Held.state};
+ghost use Rattle.desk_sql.specs.{Effects.Commits, Effects.MayMake, Effects.StaysShown, Effects.Holds, Effects.IsOver, Changing.RemakesTables};
+ghost use Rattle.table_load.specs.OpeningSteps.{IsCompletedAs, MayBecome, BeginsOrdered, HadNone, IsSetUp, ShowsPart};
+ghost use Rattle.row_codec.specs.SpanBounds.{Knows};
+ghost use Rattle.table_load.specs.{Moving.OrdersRows, Opening.BlamesReading, Opening.HasNewRows, Opening.HasSpansToIndex, Opening.IsToOrder};
 
 use crate::fault::OpenFault;
 use crate::finding::load_content;

@@ -4,8 +4,7 @@ ghost use Rattle.std.specs.Prelude.{◌≡◌, IfErr, IfOk, IsTrue, None, true, 
 ghost use Rattle.std.specs.Option.{IsSomeAnd};
 ghost use Rattle.sqlite_wal.specs.Files.{image_at};
 ghost use Rattle.sqlite_std_file.specs.File.{file_is_usable, IsFresh};
-ghost use Rattle.sqlite.specs.Files.{image_of, IsCleanLeft, LeavesFiles};
-ghost use Rattle.sqlite.specs.Held.{IsNew};
+ghost use Rattle.sqlite.specs.{Files.image_of, Files.IsCleanLeft, Files.LeavesFiles, Held.IsNew};
 ghost use Rattle.table_load.specs.Files.{Finds, IsUnread, IsUnreached, log_frames};
 
 use crate::fault::OpenFault;

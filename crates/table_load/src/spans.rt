@@ -1,16 +1,14 @@
 //! The rows of a table of spans, read one at a time in the order of their key, and compared with the plans.
 
-ghost use Rattle.std.specs.Prelude.{◌≡◌, ◌≢◌, ◌↔◌, ◌<◌, ◌+◌, ◌-◌, ◌^◌, true, false, IsTrue, IfOk, IfErr, OnOk};
-ghost use Rattle.std.specs.Prelude.{List, [], ◌∷◌, ◌++◌, drop};
+ghost use Rattle.std.specs.Prelude.{◌≡◌, ◌≢◌, ◌↔◌, ◌<◌, ◌+◌, ◌-◌, ◌^◌, true, false, IsTrue, IfOk, IfErr, OnOk, List, [], ◌∷◌, ◌++◌, drop};
 ghost use Rattle.sqlite_value.specs.Order.{Row as Columns};
-ghost use Rattle.desk_rules.specs.Plan as plan_spec;
+ghost use Rattle.desk_rules.specs.Outcome as plan_spec;
 ghost use Rattle.desk_store.specs.World.{Filed};
 ghost use Rattle.sqlite.specs.State.{HasCleanDisk};
 ghost use Rattle.sqlite.specs.Held.{state};
 ghost use Rattle.desk_sql.specs.Rows.{Lists, tables_at};
 ghost use Rattle.desk_sql.specs.Queries.{key_cells, rows_read, table_read};
-ghost use Rattle.desk_sql.specs.Effects.{StaysOpen};
-ghost use Rattle.desk_sql.specs.Frames.{OnlyReads};
+ghost use Rattle.desk_sql.specs.Effects.{StaysOpen, OnlyReads};
 ghost use Rattle.table_load.specs.Opening.{BlamesReading};
 ghost use Rattle.row_codec.specs.Tables.{AreSpanRows};
 ghost use Rattle.table_load.specs.SpanChecks.{
@@ -22,8 +20,7 @@ ghost use Rattle.table_load.specs.SpanChecks.{
   IsSlabFound,
   after_plan,
 };
-ghost use Rattle.table_load.specs.SpansHeld.{WereCompared};
-ghost use Rattle.table_load.specs.OpeningSteps.{ShowsPart};
+ghost use Rattle.table_load.specs.OpeningSteps.{WereCompared, ShowsPart};
 
 use crate::fault::OpenFault;
 use crate::finding::with_span_row;
@@ -237,9 +234,8 @@ impl SpanCheck {
 
 impl RowVisitor for SpanCheck {
     ghost use Rattle.std.specs.Prelude.{◌≡◌};
-    ghost use Rattle.sqlite.specs.declared.error.Error.TheVariants.{SqliteFailure};
-    ghost use Rattle.sqlite.specs.declared.error.ErrorCode.TheVariants.{OutOfMemory};
-    ghost use Rattle.table_load.specs.SpansHeld.{WereCompared};
+    ghost use Rattle.sqlite.specs.declared.error.{Error.TheVariants.SqliteFailure, ErrorCode.TheVariants.OutOfMemory};
+    ghost use Rattle.table_load.specs.OpeningSteps.{WereCompared};
 
     ghost has_taken = { WereCompared };
 

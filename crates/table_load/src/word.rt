@@ -1,7 +1,7 @@
 //! The error codes for a database that can't be opened.
 
 ghost use Rattle.std.specs.Prelude.{◌≡◌};
-ghost use Rattle.table_load.specs.OpenWords as spec;
+ghost use Rattle.table_load.specs.OpeningSteps as spec;
 
 use crate::fault::OpenFault;
 

@@ -5,16 +5,15 @@ use Rattle.std.specs.Prelude.{if◌then◌else◌, is_some}
 use Rattle.sqlite_disk.specs.declared.Disk as disk
 use Rattle.sqlite_store.specs.declared.store.FileStore.{FileStore}
 use Rattle.sqlite_trees.specs.declared.store.Store.{Ghosts}
-use Rattle.desk_rules.specs.Terms.{no_terms}
-use Rattle.desk_run.specs.DeskWorld.{Parts}
+use Rattle.desk_rules.specs.Outcome.{no_terms}
+use Rattle.desk_run.specs.Verdicts.{Parts}
 use Rattle.desk_cli.specs.declared.failure.ErrorCode.{ErrorCode}
 use Rattle.desk_cli.specs.declared.failure.ErrorCode.TheVariants as failure
 use Rattle.desk_cli.specs.Exits.{Ending}
 use Rattle.desk_recording.specs.Recovering.{Undone}
 use Rattle.desk_tables.specs.Store.{Shown}
 use Rattle.uss_desk.specs.FilesLeft.{FailsClosed, IsClosed, is_closed}
-use Rattle.uss_desk.specs.Finishing.{IsDone, IsFinished, IsNumbered, IsUnfinished, KeepsAlone}
-use Rattle.uss_desk.specs.LineRecord.{next_number}
+use Rattle.uss_desk.specs.Finishing.{IsDone, IsFinished, IsNumbered, IsUnfinished, KeepsAlone, next_number}
 use Rattle.uss_desk.specs.declared.watching.CloseReport.{CloseReport}
 
 -- the number of a folder's last record, by whether a request is asked again

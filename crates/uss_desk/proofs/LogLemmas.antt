@@ -1,10 +1,10 @@
 -- With which failures a file is refused for its log.
 use Rattle.std.proofs.Common.{◌≡◌, ℕ, Bool, true, false, List, Option, None, Some, Result, Ok, Err, IfErr, IfNone, IfSome, inl, inr, refl, sym, subst}
-use Rattle.desk_wire.specs.Passage.{Course}
+use Rattle.desk_wire.specs.Streams.{Course}
 use Rattle.desk_cli.specs.declared.failure.ErrorCode.{ErrorCode}
 use Rattle.desk_cli.specs.declared.failure.ErrorCode.TheVariants as failure
-use Rattle.desk_host.specs.DamageReported.{IsCheckReported}
-use Rattle.uss_desk.specs.Refused.{IsLogRefused}
+use Rattle.desk_host.specs.FoundLogs.{IsCheckReported}
+use Rattle.uss_desk.specs.Finishing.{IsLogRefused}
 
 -- a log is damaged, which refuses no file that is copied; or it can't be read, or memory ran out
 begun_fails : (copied : Bool) (path : List ℕ) (begun : Result Bool ErrorCode)

@@ -9,20 +9,18 @@ use Rattle.sqlite_store.specs.declared.store.FileStore.{FileStore}
 use Rattle.sqlite.specs.Files.{file_state, over_files}
 use Rattle.sqlite.specs.Closing.{IsCopied}
 use Rattle.sqlite.proofs.Shield.{shield_means}
-use Rattle.desk_rules.specs.Terms.{no_terms}
-use Rattle.desk_run.specs.DeskWorld.{Parts}
-use Rattle.desk_tables.specs.Store.{Shown}
+use Rattle.desk_rules.specs.Outcome.{no_terms}
+use Rattle.desk_run.specs.Verdicts.{Parts}
+use Rattle.desk_tables.specs.Store.{Shown, IsLeftUnclosed}
 use Rattle.desk_cli.specs.declared.failure.ErrorCode.{ErrorCode}
 use Rattle.desk_cli.specs.Exits.{Ending}
 use Rattle.desk_cli.specs.declared.line.Database.{Database}
-use Rattle.desk_tables.specs.Closing.{IsLeftUnclosed}
-use Rattle.table_load.specs.LyingDisk.{IsGuarded}
-use Rattle.uss_desk.specs.FilesLeft.{IsClosed, IsEnded}
-use Rattle.uss_desk.specs.Guarding.{IsPastOf, IsTrueOrCollided, Past}
+use Rattle.table_load.specs.Files.{IsGuarded}
+use Rattle.uss_desk.specs.FilesLeft.{IsClosed, IsEnded, IsPastOf, IsTrueOrCollided, Past}
 use Rattle.std.specs.Option.{IsSomeAnd}
 use Rattle.desk_admin.specs.declared.unopened.OpenError.{OpenError}
 use Rattle.uss_desk.specs.declared.watching.CloseReport.{CloseReport}
-use Rattle.uss_desk.specs.OpenedLines.{AreReadsTested, RemembersDesk, StaysGuarded}
+use Rattle.uss_desk.specs.OpenedFor.{AreReadsTested, RemembersDesk, StaysGuarded}
 
 -- a flag that is up leaves no doubt
 no_doubt : (clean : Bool) → IsTrue clean → doubt clean ≡ 0

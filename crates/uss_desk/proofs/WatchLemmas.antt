@@ -3,8 +3,8 @@ use Rattle.std.proofs.Common.{◌≡◌, ℕ, ◌+◌, subst, arith}
 use Rattle.sqlite_trees.specs.View.{doubt}
 use Rattle.sqlite_trees.specs.declared.store.Store.{Ghosts}
 use Rattle.sqlite.specs.Held.{state}
-use Rattle.desk_store.specs.StoreFrames.{OnlyReads}
-use Rattle.table_load.specs.Leaving.{MayLeave}
+use Rattle.desk_store.specs.Changes.{OnlyReads}
+use Rattle.table_load.specs.Files.{MayLeave}
 use Rattle.desk_tables.specs.Store.{Shown}
 
 -- a store, with the changes that were refused among its faults

@@ -1,26 +1,109 @@
--- Finishing: what the last journal left pending is recovered at the desk that was opened.
-use Rattle.std.specs.Prelude.{◌≡◌, ◌⊎◌, ℕ, List, [], Option, None, Some, IsSome, Result, Ok, Err}
-use Rattle.std.specs.Global.{Vec}
+-- Journals: what the last one left pending is recovered, why one is refused, and what is played with one.
+use Rattle.std.specs.Prelude.{◌≡◌, ◌+◌, ◌^◌, [], ◌==◌, ℕ, Bool, true, false, List, Option, None, Some, Result, Ok, Err, codes, if◌then◌else◌, nat_lt, ◌⊎◌, ⊤, IsSome, ◌≤◌, IfErr, IfOk}
+use Rattle.std.specs.declared.io.Error.{Error}
+use Rattle.std.specs.{Global.Vec, Option.IsSomeAnd}
 use Rattle.sqlite_trees.specs.declared.store.Store.{Ghosts}
-use Rattle.desk_store.specs.Crashes.{LeavesOnly}
-use Rattle.desk_rules.specs.Terms.{no_terms}
+use Rattle.sqlite_trees.specs.View.{doubt}
+use Rattle.sqlite_disk.specs.declared.Disk as disk
+use Rattle.sqlite.specs.Held.{state}
+use Rattle.desk_rules.specs.Outcome.{no_terms}
 use Rattle.desk_rules.specs.declared.terms.Terms.{Terms}
-use Rattle.desk_run.specs.DeskWorld.{Parts}
-use Rattle.desk_wire.specs.Passage.{course}
-use Rattle.desk_cli.specs.declared.line.Enrolment.{Enrolment}
-use Rattle.desk_cli.specs.declared.failure.ErrorCode.{ErrorCode}
-use Rattle.desk_cli.specs.declared.failure.ErrorCode.TheVariants as failure
-use Rattle.desk_recording.specs.Recovering.{Recovers, Undone, missing_enrolments, undone}
-use Rattle.desk_recording.specs.Tail.{unanswered_in}
-use Rattle.table_load.specs.Leaving.{MayLeave}
+use Rattle.desk_store.specs.World.{LeavesOnly, World}
+use Rattle.desk_run.specs.Verdicts.{Parts}
+use Rattle.desk_wire.specs.Streams.{course, Passage}
+use Rattle.desk_replay.specs.Running.{IsReplayed, IsUnplayed}
+use Rattle.table_load.specs.Files.{MayLeave}
 use Rattle.desk_tables.specs.Store.{Shown}
-use Rattle.uss_desk.specs.LineRecord.{next_number}
-use Rattle.uss_desk.specs.OpenedFor.{load_world}
-use Rattle.uss_desk.specs.OpenedLines.{IsSound}
-use Rattle.uss_desk.specs.Refused.{IsStoreOrFolderFailure}
-use Rattle.uss_desk.specs.declared.recording.PendingRecovery.{PendingRecovery}
-use Rattle.uss_desk.specs.declared.rolls.NotedOperators.{NotedOperators}
+use Rattle.desk_cli.specs.declared.{failure.ErrorCode.ErrorCode, line.Line.Line, line.Enrolment.Enrolment, line.PlayArgs.PlayArgs}
+use Rattle.desk_cli.specs.declared.failure.ErrorCode.TheVariants as failure
+use Rattle.desk_cli.specs.declared.line.Line.TheVariants as line
+use Rattle.desk_cli.specs.Exits.{Ending}
+use Rattle.desk_host.specs.declared.folders.{JournalFile.JournalFile, JournalError.JournalError}
+use Rattle.desk_host.specs.declared.folders.JournalError.TheVariants as unkept
+use Rattle.desk_host.specs.Operators.{journal_error_text}
+use Rattle.uss_desk.specs.declared.{recording.FileError.FileError, recording.LocalJournal.LocalJournal, recording.PendingRecovery.PendingRecovery, rolls.NotedOperators.NotedOperators}
+use Rattle.uss_desk.specs.OpenedFor.{load_world, IsSound}
+use Rattle.desk_recording.specs.declared.tail.{Tail.Tail, TailEnd.TailEnd, TailEnd.TheVariants.End, TailEnd.TheVariants.Short, TailEnd.TheVariants.Damaged}
+use Rattle.desk_recording.specs.{Recovering.Recovers, Recovering.Undone, Recovering.missing_enrolments, Recovering.undone, Tail.unanswered_in, Inputs.InputOutside, Inputs.IsPlayRecorded, Inputs.IsRecordedKept, Inputs.IsUnrecorded}
 
+-- the number of a folder's last journal and its size in bytes, each 0 if there is none
+abbrev pub extent_of : Option JournalFile → ℕ × ℕ
+extent_of None = (0, 0)
+extent_of (Some found) = (found.number, found.len)
+
+-- the result of something done in the journal folder, with an error code: `Memory`, or `Write` for a cause
+abbrev pub failure_of : {V : Type 0} → Result V JournalError → Result V ErrorCode
+failure_of (Ok v) = Ok v
+failure_of (Err unkept.Memory) = Err failure.Memory
+failure_of (Err (unkept.Cause cause)) = Err failure.Write
+
+-- the result for a desk in memory, which continues no journal, by the command and by whether the folder has
+-- journals: nothing to recover for `play` in a folder without any; `Write` for `play` in another; else
+-- `Store`
+abbrev pub BeginsAlone : {V : Type 0} → Line → Bool → Result (Option V) ErrorCode → Type 0
+BeginsAlone (line.Play words) false result = result ≡ Ok None
+BeginsAlone (line.Play words) true result = result ≡ Err failure.Write
+BeginsAlone _ _ result = result ≡ Err failure.Store
+
+-- a journal needs no recovery: it ends with a whole entry, its last request is answered, no enrolment follows
+abbrev pub HasNothingPending : Tail → TailEnd → Type 0
+HasNothingPending tail ended = (ended ≡ End) × (tail.asked ≡ None) × (tail.operators.items ≡ [])
+
+-- the number of the next journal; the error `Write` if 64 bits don't hold it
+abbrev pub next_number : ℕ → Result ℕ ErrorCode
+next_number number = if nat_lt (number + 1) (2 ^ 64) then Ok (number + 1) else Err failure.Write
+
+-- why a journal can't be continued, or none if it can: by the number in its name, the number in its first
+-- entry, if that is whole, and what follows its last whole entry
+abbrev pub cause_of_tail : ℕ → Option ℕ → TailEnd → Option (List ℕ)
+cause_of_tail number None End = Some (codes "its last record is empty")
+cause_of_tail number None Short = Some (codes "its last record is damaged")
+cause_of_tail number begun Damaged = Some (codes "its last record is damaged")
+cause_of_tail number (Some begun) ended =
+    if begun == number then None else Some (codes "its last record has another number")
+
+-- ==== Why a journal folder can't be used, and why a database file is refused for its WAL
+-- the error code of a journal folder that can't be read, written or continued (`Write`), or `Memory`
+abbrev pub IsFolderFailure : ErrorCode → Type 0
+IsFolderFailure f = (f ≡ failure.Write) ⊎ (f ≡ failure.Memory)
+
+-- the error code of a journal that can't be begun: one of these, or `Clock`
+abbrev pub IsClockOrFolderFailure : ErrorCode → Type 0
+IsClockOrFolderFailure f = (f ≡ failure.Clock) ⊎ IsFolderFailure f
+
+-- the error code of a journal folder that can't be recovered from: `Store` for the database, or the folder's
+abbrev pub IsStoreOrFolderFailure : ErrorCode → Type 0
+IsStoreOrFolderFailure f = (f ≡ failure.Store) ⊎ IsFolderFailure f
+
+-- the result is what was read of a journal, if there is no cause against continuing it; else that cause
+abbrev pub ContinuesUnless : Option (List ℕ) → Tail × TailEnd → Result (Tail × TailEnd) JournalError → Type 0
+ContinuesUnless None read result = result ≡ Ok read
+ContinuesUnless (Some cause) read (Ok other) = ⊥
+ContinuesUnless (Some cause) read (Err why) = journal_error_text why ≡ Some cause
+
+-- there is no cause against continuing the journal with this number in its name
+abbrev pub CanContinue : ℕ → Tail → TailEnd → Type 0
+CanContinue number tail ended = cause_of_tail number tail.record ended ≡ None
+
+-- the recovery is for the database file; this last journal asks for that recovery, and can be continued
+pub record IsPendingAt (file : List ℕ) (last : JournalFile) (left : PendingRecovery) : Type 0 where
+  pub at : left.file.now ≡ file
+  pub of : left.record ≡ last
+  pub may : CanContinue last.number left.tail left.ended
+
+-- the result of a write or a sync of a journal is returned; an error is noted as reported
+abbrev pub ReportsFirstError : Result ⊤ Error → LocalJournal → LocalJournal → Result ⊤ FileError → Type 0
+ReportsFirstError (Ok done) old new result = (result ≡ Ok (tt {0})) × (new ≡ old)
+ReportsFirstError (Err e) old new result =
+    (result ≡ Err (record { error = e })) × (new ≡ record old { is_reported = true })
+
+-- the error code of a file that is refused for its WAL: `DamagedLog`, but not for a command that copies the
+-- file; `Memory`; or `Store`, if the WAL can't be read or exists without its file
+abbrev pub IsLogRefused : Bool → ErrorCode → Type 0
+IsLogRefused copied f =
+    ((copied ≡ false) × (f ≡ failure.DamagedLog)) ⊎ ((f ≡ failure.Memory) ⊎ (f ≡ failure.Store))
+
+-- ==== What the last journal left pending is recovered at the desk that was opened
 -- the operators that were noted; the empty list if none were
 abbrev pub operators_in : Option (Vec Enrolment) → List Enrolment
 operators_in None = []
@@ -43,8 +126,7 @@ abbrev pub IsNumbered : {A : Type 0} → Option A → ℕ → ℕ → Type 0
 IsNumbered None old new = new ≡ old
 IsNumbered (Some asked) old new = next_number old ≡ Ok new
 
--- after a crash the next start finds only the desk's content (new), if that was so before (old) and the disk
--- has returned what was written
+-- a crash leaves just the desk's content (new), if it did before (old) and the disk returned what was written
 abbrev pub KeepsAlone : {S : Type 0} → Ghosts S → Parts (Shown S) → Parts (Shown S) → Type 0
 KeepsAlone g old new =
     IsSound g new → LeavesOnly old.store.world (MayLeave g old.store.held)
@@ -62,11 +144,52 @@ pub record IsFinished {S : Type 0} (g : Ghosts S) (u : Undone) (opened after : P
   pub anew : after.terms ≡ no_terms
   pub kept : KeepsAlone g opened after
 
--- the result of `finish`: nothing was pending, and the desk is the opened one; or the recovery succeeded; or
--- why it failed
+-- the result of `finish`: the opened desk if nothing was pending; or the recovery succeeded; or why it failed
 abbrev pub Finishes :
     {S : Type 0} → Ghosts S → Option PendingRecovery → NotedOperators → Parts (Shown S)
     → Result (Parts (Shown S)) ErrorCode → Type 0
 Finishes g None roll opened result = result ≡ Ok opened
 Finishes g (Some left) roll opened (Ok after) = IsFinished g (pending_at left roll) opened after
 Finishes g (Some left) roll opened (Err f) = IsUnfinished left.tail.asked f
+
+-- ==== What the command `play` with a journal does at the desk that was opened for it, up to the exit status
+module _ {S : Type 0} (g : Ghosts S) (play : PlayArgs) (o : InputOutside) where
+  -- the input is played at the desk that was opened (desk), which becomes `left`. If the disk has returned
+  -- what was written until now, it had before; and if each later read was tested before, it still is
+  abbrev pub IsInputDoneAt : Option (Parts (Shown S)) → Parts (Shown S) → Type 0
+  IsInputDoneAt left desk = IsSomeAnd left (λ left.
+      IsPlayRecorded (IsSound g left) play o (load_world desk) (load_world left)
+      × (doubt (state g desk.store.held).is_clean ≤ doubt (state g left.store.held).is_clean)
+      × ((state g desk.store.held).IsShielded → (state g left.store.held).IsShielded))
+
+  -- and what the next start may find afterwards, if it could find only the desk's content before and the disk
+  -- has returned what was written
+  abbrev pub IsInputKeptAt : Option (Parts (Shown S)) → Parts (Shown S) → Type 0
+  IsInputKeptAt left begun = IsSomeAnd left (λ desk.
+      IsSound g desk → LeavesOnly begun.store.world (MayLeave g begun.store.held)
+      → (found : Option World) → MayLeave g desk.store.held found
+      → IsRecordedKept (IsSound g desk) play o (load_world begun) (load_world desk) found)
+
+  -- `play`: its input is played at the desk opened for it; or none was, and only that error is reported
+  pub record IsInputRun (opened : Result (Parts (Shown S)) ErrorCode)
+      (left : Option (Parts (Shown S))) : Type 0
+    where
+      pub done : IfOk opened (IsInputDoneAt left)
+      pub kept : IfOk opened (IsInputKeptAt left)
+      pub undone : IfErr opened (IsUnrecorded o left)
+
+-- a journal is replayed at the desk that was opened (desk), which becomes `left`. If the disk has returned
+-- what was written until now, it had before; and if each later read was tested before, it still is
+abbrev pub IsReplayedAt :
+    {S : Type 0} → Ghosts S → Option ℕ → Passage → Ending → Option (Parts (Shown S)) → Parts (Shown S)
+    → Type 0
+IsReplayedAt g until p end left desk = IsSomeAnd left (λ left.
+    IsReplayed (IsSound g left) until p end (load_world desk) (load_world left)
+    × (doubt (state g desk.store.held).is_clean ≤ doubt (state g left.store.held).is_clean)
+    × ((state g desk.store.held).IsShielded → (state g left.store.held).IsShielded))
+
+-- `replay`: its journal is replayed at the desk opened for it; or none was, and only that error is reported
+pub record IsReplayRun {S : Type 0} (g : Ghosts S) (opened : Result (Parts (Shown S)) ErrorCode)
+    (until : Option ℕ) (p : Passage) (end : Ending) (left : Option (Parts (Shown S))) : Type 0 where
+  pub done : IfOk opened (IsReplayedAt g until p end left)
+  pub undone : IfErr opened (IsUnplayed p end left)

@@ -1,6 +1,6 @@
 //! What the clauses of this crate mean for files of the operating system.
 
-ghost use Rattle.uss_desk.specs.Guarding.{IsPastOf, past_of};
+ghost use Rattle.uss_desk.specs.FilesLeft.{IsPastOf, past_of};
 
 use sqlite::{FileFrom, Start};
 use sqlite_disk::Disk;

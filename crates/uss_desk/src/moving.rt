@@ -1,10 +1,9 @@
 //! The command `migrate`: the plans of a database of schema 1 are migrated to schema 2.
 
 ghost use Rattle.std.specs.Prelude.{◌≡◌, ◌⊎◌, IfErr, false};
-ghost use Rattle.desk_program.specs.Outside.{bytes_written, ended};
-ghost use Rattle.desk_admin.specs.Unopened.{IsOpenFailure, or_failure};
-ghost use Rattle.uss_desk.specs.OpenedLines.{IsMigrationReported};
-ghost use Rattle.uss_desk.specs.Refused.{IsLogRefused};
+ghost use Rattle.desk_program.specs.Keeping.{bytes_written, ended};
+ghost use Rattle.desk_admin.specs.FilesReported.{IsOpenFailure, or_failure};
+ghost use Rattle.uss_desk.specs.{OpenedFor.IsMigrationReported, Finishing.IsLogRefused};
 
 use crate::closing::{close_after, status_closed};
 use crate::opening::{FileDesk, MigratedDesk, open_old};

@@ -2,10 +2,8 @@
 
 ghost use Rattle.std.specs.Prelude.{◌≡◌, IfErr, IfOk};
 ghost use Rattle.sqlite_wal.specs.Files.{image_at};
-ghost use Rattle.desk_rules.specs.Terms.{no_terms};
-ghost use Rattle.uss_desk.specs.OpenedFor.{IsBlank, IsMemory, IsMigratedAt, IsMigratedIn};
-ghost use Rattle.uss_desk.specs.OpenedFor.{IsOpenedAt, IsOpenedIn};
-ghost use Rattle.uss_desk.specs.Rolls.{HasNoted, HasNotedAt, HasNotedDesk};
+ghost use Rattle.desk_rules.specs.Outcome.{no_terms};
+ghost use Rattle.uss_desk.specs.OpenedFor.{IsBlank, IsMemory, IsMigratedAt, IsMigratedIn, IsOpenedAt, IsOpenedIn, HasNoted, HasNotedAt, HasNotedDesk};
 
 use crate::rolls::NotedOperators;
 use crate::watching::PathChecked;

@@ -3,9 +3,7 @@
 ghost use Rattle.sqlite.specs.Files.{over_files};
 ghost use Rattle.desk_cli.specs.Lines.{IsPlay};
 ghost use Rattle.desk_recording.specs.Inputs.{input_outside};
-ghost use Rattle.uss_desk.specs.Guarding.{IsPastOf, Past};
-ghost use Rattle.uss_desk.specs.OpenedLines.{AreReadsTested, StaysGuarded};
-ghost use Rattle.uss_desk.specs.RecordedPlays.{IsInputRun};
+ghost use Rattle.uss_desk.specs.{FilesLeft.IsPastOf, FilesLeft.Past, OpenedFor.AreReadsTested, OpenedFor.StaysGuarded, Finishing.IsInputRun};
 
 use crate::opening::DeskAt;
 use desk_cli::{ErrorCode, ExitReport, PlayArgs};

@@ -2,21 +2,14 @@
 //! the next journal is begun. No contract says what the operating system did. In reports a journal is called
 //! "record".
 
-ghost use Rattle.std.specs.Prelude.{◌≡◌, ◌⊎◌, ◌++◌, ◌↔◌, false, true, IfErr, IfOk, IfSome, IsSome, IsTrue};
-ghost use Rattle.std.specs.Prelude.{None, Ok, OnErr, OnOk, Some, option_map};
+ghost use Rattle.std.specs.Prelude.{◌≡◌, ◌⊎◌, ◌++◌, ◌↔◌, false, true, IfErr, IfOk, IfSome, IsSome, IsTrue, None, Ok, OnErr, OnOk, Some, option_map};
 ghost use Rattle.std.specs.Option.{IsSomeAnd, is_some};
 ghost use Rattle.sqlite.specs.Files.{over_files};
 ghost use Rattle.desk_cli.specs.Lines.{line_of};
 ghost use Rattle.uss_desk.specs.FilesLeft as files;
-ghost use Rattle.uss_desk.specs.FilesLeft.{FailsClosed};
-ghost use Rattle.uss_desk.specs.Finishing.{Finishes, IsDone, IsNumbered, IsUnfinished, KeepsAlone};
-ghost use Rattle.uss_desk.specs.Finishing.{pending_at};
-ghost use Rattle.uss_desk.specs.LineRecord as spec;
-ghost use Rattle.uss_desk.specs.LineRecord.{BeginsAlone, HasNothingPending};
-ghost use Rattle.uss_desk.specs.OpenedLines.{AreReadsTested, RemembersDesk};
-ghost use Rattle.uss_desk.specs.Refused.{ContinuesUnless, ReportsFirstError, CanContinue, IsPendingAt};
-ghost use Rattle.uss_desk.specs.Refused.{IsFolderFailure, IsClockOrFolderFailure, IsStoreOrFolderFailure};
-ghost use Rattle.uss_desk.specs.Rolls.{HasNoted, HasNotedDesk};
+ghost use Rattle.uss_desk.specs.{FilesLeft.FailsClosed, OpenedFor.AreReadsTested, OpenedFor.RemembersDesk, OpenedFor.HasNoted, OpenedFor.HasNotedDesk};
+ghost use Rattle.uss_desk.specs.Finishing.{Finishes, IsDone, IsNumbered, IsUnfinished, KeepsAlone, pending_at, BeginsAlone, HasNothingPending, ContinuesUnless, ReportsFirstError, CanContinue, IsPendingAt, IsFolderFailure, IsClockOrFolderFailure, IsStoreOrFolderFailure};
+ghost use Rattle.uss_desk.specs.Finishing as spec;
 
 use crate::closing::close_after;
 use crate::opening::{DeskAt, opened_anew};

@@ -1,8 +1,8 @@
 //! Reports why a database can't be opened, before a command ends for it.
 
 ghost use Rattle.std.specs.Prelude.{◌≡◌, OnOk};
-ghost use Rattle.desk_program.specs.Outside.{bytes_written};
-ghost use Rattle.host_files.specs.Reporting.{Reports};
+ghost use Rattle.desk_program.specs.Keeping.{bytes_written};
+ghost use Rattle.host_files.specs.Naming.{Reports};
 
 use desk_admin::causes::{report_database, report_made};
 use desk_admin::unopened::FileOpenError;

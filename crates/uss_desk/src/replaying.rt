@@ -3,11 +3,8 @@
 ghost use Rattle.std.specs.Prelude.{IfErr, false};
 ghost use Rattle.sqlite.specs.Files.{over_files};
 ghost use Rattle.desk_cli.specs.Exits.{ending};
-ghost use Rattle.desk_wire.specs.Passage.{passage};
-ghost use Rattle.uss_desk.specs.Guarding.{IsPastOf, Past};
-ghost use Rattle.uss_desk.specs.OpenedLines.{AreReadsTested, StaysGuarded};
-ghost use Rattle.uss_desk.specs.RecordsPlayed.{IsReplayRun};
-ghost use Rattle.uss_desk.specs.Refused.{IsLogRefused};
+ghost use Rattle.desk_wire.specs.Streams.{passage};
+ghost use Rattle.uss_desk.specs.{FilesLeft.IsPastOf, FilesLeft.Past, OpenedFor.AreReadsTested, OpenedFor.StaysGuarded, Finishing.IsReplayRun, Finishing.IsLogRefused};
 
 use crate::closing::{close_after, status_closed};
 use crate::opening::{DeskAt, Opened, open_database};

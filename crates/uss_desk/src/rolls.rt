@@ -2,10 +2,9 @@
 
 ghost use Rattle.std.specs.Prelude.{◌≡◌, ◌↔◌, [], IfOk, IsTrue, None, false, is_none, map};
 ghost use Rattle.std.specs.Option.{IsSomeAnd};
-ghost use Rattle.sqlite.specs.Files.{file_state};
-ghost use Rattle.sqlite.specs.State.{HasCleanDisk};
+ghost use Rattle.sqlite.specs.{Files.file_state, State.HasCleanDisk};
 ghost use Rattle.desk_cli.specs.Lines.{file_of};
-ghost use Rattle.uss_desk.specs.Rolls.{AreOperatorsOf, HasNoted, as_listed};
+ghost use Rattle.uss_desk.specs.OpenedFor.{AreOperatorsOf, HasNoted, as_listed};
 
 use desk_cli::{Database, Enrolment};
 use desk_tables::{ListedOperator, SqliteStore};

@@ -2,10 +2,9 @@
 
 ghost use Rattle.sqlite.specs.Files.{over_files};
 ghost use Rattle.desk_cli.specs.Lines.{IsLine, line_of};
-ghost use Rattle.desk_wire.specs.Passage.{course};
-ghost use Rattle.desk_program.specs.Outside.{outside};
-ghost use Rattle.uss_desk.specs.Guarding.{IsPastOf, Past};
-ghost use Rattle.uss_desk.specs.OpenedLines.{AreReadsTested, IsLineRun, StaysGuarded};
+ghost use Rattle.desk_wire.specs.Streams.{course};
+ghost use Rattle.desk_program.specs.Keeping.{outside};
+ghost use Rattle.uss_desk.specs.{FilesLeft.IsPastOf, FilesLeft.Past, OpenedFor.AreReadsTested, OpenedFor.IsLineRun, OpenedFor.StaysGuarded};
 
 use crate::opening::DeskAt;
 use desk_cli::{DeskCommand, ErrorCode, ExitReport};

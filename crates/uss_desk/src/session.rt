@@ -5,13 +5,10 @@ ghost use Rattle.std.specs.Prelude.{◌≡◌, ◌↔◌, [], Err, IfErr, IfOk, 
 ghost use Rattle.std.specs.Option.{is_some};
 ghost use Rattle.sqlite.specs.Files.{over_files};
 ghost use Rattle.desk_cli.specs.Lines.{IsLine, file_of, line_of};
-ghost use Rattle.host_files.specs.Reporting.{IsWrittenIfRoom, unenrolled_line};
-ghost use Rattle.desk_program.specs.Outside.{bytes_written};
-ghost use Rattle.uss_desk.specs.Finishing.{Finishes};
-ghost use Rattle.uss_desk.specs.OpenedLines.{AreReadsTested};
-ghost use Rattle.uss_desk.specs.Rolls.{HasNotedDesk};
-ghost use Rattle.uss_desk.specs.Sessions as spec;
-ghost use Rattle.uss_desk.specs.Sessions.{IsPrepared, IsUnenrolled};
+ghost use Rattle.host_files.specs.Naming.{IsWrittenIfRoom, unenrolled_line};
+ghost use Rattle.desk_program.specs.Keeping.{bytes_written};
+ghost use Rattle.uss_desk.specs.{Finishing.Finishes, OpenedFor.AreReadsTested, OpenedFor.HasNotedDesk, FilesLeft.IsPrepared, FilesLeft.IsUnenrolled};
+ghost use Rattle.uss_desk.specs.FilesLeft as spec;
 
 use crate::closing::{close_after, status_closed};
 use crate::fail;

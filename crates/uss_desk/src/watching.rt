@@ -3,15 +3,11 @@
 ghost use Rattle.std.specs.Prelude.{◌≡◌, ◌≤◌, ◌+◌, [], ◌∷◌, Option, IfErr, IfOk, OnErr, OnOk};
 ghost use Rattle.sqlite_wal.specs.Reads.{AreClean};
 ghost use Rattle.sqlite.specs.Closing.{IsCopied};
-ghost use Rattle.desk_store.specs.Crashes.{LeavesOldOr, LeavesOnly};
-ghost use Rattle.desk_store.specs.StoreChange.{changed_by, IsFitting};
-ghost use Rattle.desk_store.specs.StoreFaults.{HasRisen, IsHonest};
-ghost use Rattle.desk_store.specs.StoreFrames.{Remembers};
-ghost use Rattle.desk_tables.specs.Closing.{IsLeftUnclosed};
-ghost use Rattle.desk_wire.specs.Passage.{course};
+ghost use Rattle.desk_store.specs.{World.LeavesOldOr, World.LeavesOnly, Changes.changed_by, Changes.IsFitting, Changes.HasRisen, Changes.IsHonest, Changes.Remembers};
+ghost use Rattle.desk_tables.specs.Store.{IsLeftUnclosed};
+ghost use Rattle.desk_wire.specs.Streams.{course};
 ghost use Rattle.host_files.specs.Paths.{AreAtPaths};
-ghost use Rattle.uss_desk.specs.Rolls.{HasNoted};
-ghost use Rattle.uss_desk.specs.Watching.{ChecksPaths};
+ghost use Rattle.uss_desk.specs.{OpenedFor.HasNoted, FilesLeft.ChecksPaths};
 
 use crate::rolls::NotedOperators;
 use desk_rules::operator::Operator;
@@ -154,7 +150,7 @@ fn apply_at<S: PlanStore, N: OpenPaths>(
 impl<S: Alter, N: OpenPaths + Drop> PlanStore for PathChecked<S, N> {
     ghost use Rattle.sqlite_trees.specs.View.{doubt};
     ghost use Rattle.sqlite.specs.Held.{state};
-    ghost use Rattle.table_load.specs.Leaving.{MayLeave};
+    ghost use Rattle.table_load.specs.Files.{MayLeave};
 
     ghost content = { λ w. w.world };
 

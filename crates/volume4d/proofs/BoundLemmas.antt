@@ -10,9 +10,8 @@ use Rattle.std.proofs.lemmas.List.Folds.{Any-from_list_any, list_any_at}
 use Rattle.s2_hilbert.specs.Curve.{position_of, grid_leaf_at}
 use Rattle.s2_hilbert.proofs.lemmas.Curve.{position_undone}
 use Rattle.volume4d.specs.declared.slab.Slab.{Slab}
-use Rattle.volume4d.specs.Point.{Point}
-use Rattle.volume4d.specs.Slab.{slab_has, slabs_have}
-use Rattle.volume4d.specs.Bounds.{IsFilled, IsWithin, IsJoin, IsBounds}
+use Rattle.volume4d.specs.Volume.{Point}
+use Rattle.volume4d.specs.Slab.{slab_has, slabs_have, IsFilled, IsWithin, IsJoin, IsBounds}
 use Rattle.volume4d.proofs.LeafTests.{leaf_at_passes}
 use Rattle.volume4d.proofs.lemmas.Slab.{IsIn-from_has, has-from_IsIn}
 use Rattle.volume4d.proofs.lemmas.Bounds.{left_in, right_in, within_has, within_through}

@@ -3,10 +3,9 @@ use Rattle.std.proofs.Common.{◌≡◌, ℕ, ◌<◌, ◌≤◌, true, ◌||◌
 use Rattle.std.proofs.lemmas.List.Folds.{list_any-append}
 use Rattle.s2_hilbert.specs.Curve.{position_of}
 use Rattle.volume4d.specs.declared.slab.Slab.{Slab}
-use Rattle.volume4d.specs.Point.{Point}
-use Rattle.volume4d.specs.Slab.{slab_has, slabs_have}
+use Rattle.volume4d.specs.Volume.{Point}
+use Rattle.volume4d.specs.Slab.{slab_has, slabs_have, AreInTurn, IsCluster}
 use Rattle.volume4d.specs.Sweep.{Ascend}
-use Rattle.volume4d.specs.Clusters.{AreInTurn, IsCluster}
 use Rattle.volume4d.proofs.Sweeping.{later_begin, not_less_after}
 
 -- no point of the first slabs lies after the position

@@ -9,12 +9,10 @@ use Rattle.std.proofs.lemmas.Bool.{and_parts, and_from, false_from_ne_true}
 use Rattle.std.proofs.lemmas.Bool.Decides.{nat_tests}
 use Rattle.s2_hilbert.specs.Curve.{position_of, grid_leaf_at}
 use Rattle.s2_hilbert.proofs.lemmas.Curve.{position_undone}
-use Rattle.s2_cellid.specs.Cell.{leaf_id_at}
-use Rattle.s2_cellid.specs.Family.{leaf_id}
+use Rattle.s2_cellid.specs.Cell.{leaf_id_at, leaf_id}
 use Rattle.volume4d.specs.declared.slab.Slab.{Slab}
-use Rattle.volume4d.specs.Point.{Point, is_leaf, point_cmp}
-use Rattle.volume4d.specs.Slab.{slab_has_leaf, slab_has}
-use Rattle.volume4d.specs.Shared.{corner_of}
+use Rattle.volume4d.specs.Volume.{Point, is_leaf, point_cmp}
+use Rattle.volume4d.specs.Slab.{slab_has_leaf, slab_has, corner_of}
 use Rattle.volume4d.proofs.LeafTests.{leaf_at_passes}
 use Rattle.volume4d.proofs.lemmas.Slab.{IsIn, IsIn-from_has, has-from_IsIn}
 

@@ -7,13 +7,10 @@ use Rattle.std.proofs.lemmas.List.Elements.{All-head, All-tail, All-contains}
 use Rattle.s2_hilbert.specs.Curve.{grid_leaf_at}
 use Rattle.s2_cellid.specs.Cell.{IsCellId, cell_has}
 use Rattle.s2_cellid.proofs.lemmas.Family.{position_in}
-use Rattle.s2_cover.specs.Canonical.{IsCanonical}
-use Rattle.s2_cover.specs.CanonicalList.{canonical_list}
-use Rattle.s2_cover.specs.Leaves.{leaves_of}
-use Rattle.s2_cover.specs.Rectangles.{RectParts, IsRect, wide_set, rect_leaves}
+use Rattle.s2_cover.specs.Covers.{IsCanonical, canonical_list, leaves_of, RectParts, IsRect, wide_set, rect_leaves}
 use Rattle.volume4d.specs.VolumeLimits.{max_cells, max_cover}
-use Rattle.volume4d.specs.Shape.{Shape, cells, rectangle, is_footprint, shape_positions}
-use Rattle.volume4d.specs.FootprintBytes.{HasValidParts}
+use Rattle.volume4d.specs.Volume.{Shape, cells, rectangle, is_footprint, shape_positions}
+use Rattle.volume4d.specs.Footprint.{HasValidParts}
 use Rattle.volume4d.proofs.LeafTests.{face_at, no_leaf_at}
 use Rattle.volume4d.proofs.FootprintRanges.{leaves_alone, cells_below, rectangle_below}
 

@@ -1,7 +1,7 @@
 -- Extents and their faults.
 use Rattle.std.proofs.Common.{◌≡◌, Bool, true, false, cond, Ok, Err, refl, ap, ◌∙◌}
 use Rattle.volume4d.specs.VolumeLimits.{within_altitudes, within_times, within_length}
-use Rattle.volume4d.specs.Windows.{WindowParts, window_or_fault}
+use Rattle.volume4d.specs.Volume.{WindowParts, window_or_fault}
 
 all_pass : {A E : Type 0} (x y z : Bool) (e : A) (a b c : E) → true ≡ x → true ≡ y → true ≡ z → Ok e
     ≡ cond x (cond y (cond z (Ok e) (Err c)) (Err b)) (Err a)

@@ -8,14 +8,11 @@ use Rattle.std.proofs.lemmas.List.Elements.{All-nil, All-append, All-cons, All-h
 use Rattle.std.specs.List.Sorted.{IsPermutation}
 use Rattle.std.proofs.lemmas.List.Sorted.{All-permutation, length_permutation}
 use Rattle.s2_cover.specs.declared.spans.Span.{Span}
-use Rattle.s2_cover.specs.Ranges.{IsSpan}
+use Rattle.s2_cover.specs.Covers.{IsSpan}
 use Rattle.volume4d.specs.declared.slab.Slab.{Slab}
 use Rattle.volume4d.specs.VolumeLimits.{within_altitudes, within_times, within_length}
-use Rattle.volume4d.specs.Windows.{WindowParts, is_window}
-use Rattle.volume4d.specs.Volume.{Block}
-use Rattle.volume4d.specs.Slab.{span_of, slab_window}
-use Rattle.volume4d.specs.Slabs.{AreSlabsOn, AreVolumeSlabs, AreAreaSlabs}
-use Rattle.volume4d.specs.Bounds.{IsFilled, AreFilled}
+use Rattle.volume4d.specs.Volume.{WindowParts, is_window, Block}
+use Rattle.volume4d.specs.Slab.{span_of, slab_window, AreSlabsOn, AreVolumeSlabs, AreAreaSlabs, IsFilled, AreFilled}
 use Rattle.volume4d.proofs.SlabPoints.{slabs_of_push}
 
 before : (a b : ℤ) → int_lt a b ≡ true → a <ℤ b

@@ -6,10 +6,9 @@ use Rattle.std.proofs.Math.Bool.{and-or_distrib_right}
 use Rattle.std.proofs.lemmas.List.Folds.{list_any_more}
 use Rattle.volume4d.specs.declared.slab.Slab.{Slab}
 use Rattle.volume4d.specs.declared.slab.Held.{Held}
-use Rattle.volume4d.specs.Point.{Point}
-use Rattle.volume4d.specs.Slab.{slab_has, slabs_have, helds_have, top_held}
-use Rattle.volume4d.specs.Meeting.{IsFirst, IsFirstPoint}
-use Rattle.volume4d.specs.Shared.{is_shared}
+use Rattle.volume4d.specs.Volume.{Point}
+use Rattle.volume4d.specs.Slab.{slab_has, slabs_have, helds_have, top_held, is_shared}
+use Rattle.volume4d.specs.Sweep.{IsFirst, IsFirstPoint}
 use Rattle.std.proofs.lemmas.Bool.{and_parts}
 use Rattle.volume4d.proofs.LevelLemmas.{is_some_top_held}
 

@@ -7,11 +7,8 @@ use Rattle.s2_hilbert.specs.Grid.{GridLeaf}
 use Rattle.s2_hilbert.specs.Curve.{position_of, grid_leaf_at}
 use Rattle.s2_hilbert.proofs.lemmas.Curve.{position_undone}
 use Rattle.s2_cover.specs.declared.spans.Span.{Span}
-use Rattle.s2_cover.specs.Leaves.{leaves_of}
-use Rattle.s2_cover.specs.Rectangles.{RectParts, widened, wide_has, wide_set, rect_leaves}
-use Rattle.s2_cover.specs.Ranges.{IsSpan, IsRanges, span_has, spans_have}
-use Rattle.volume4d.specs.Point.{is_leaf}
-use Rattle.volume4d.specs.Shape.{Shape, cells, rectangle, shape_has, shape_positions}
+use Rattle.s2_cover.specs.Covers.{leaves_of, RectParts, widened, wide_has, wide_set, rect_leaves, IsSpan, IsRanges, span_has, spans_have}
+use Rattle.volume4d.specs.Volume.{is_leaf, Shape, cells, rectangle, shape_has, shape_positions}
 use Rattle.volume4d.proofs.LeafTests.{leaf_at_passes, no_leaf_at}
 
 -- a footprint has leaves alone

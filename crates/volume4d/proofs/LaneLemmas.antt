@@ -15,15 +15,12 @@ use Rattle.std.proofs.lemmas.List.Elements.{All-more, All-push}
 use Rattle.std.proofs.lemmas.List.Folds.{list_any-append, Any-from_list_any, list_any-from_Any}
 use Rattle.std.proofs.lemmas.List.Sorted.{IsNonDecreasingBy-drop}
 use Rattle.s2_hilbert.specs.Curve.{position_of}
-use Rattle.s2_cellid.specs.Family.{leaf_id}
+use Rattle.s2_cellid.specs.Cell.{leaf_id}
 use Rattle.volume4d.specs.declared.slab.Slab.{Slab}
-use Rattle.volume4d.specs.Point.{Point, point_cmp}
-use Rattle.volume4d.specs.Slab.{slab_has, slabs_have}
-use Rattle.volume4d.specs.Shared.{corner_of}
-use Rattle.volume4d.specs.Meeting.{IsFirstPoint}
+use Rattle.volume4d.specs.Volume.{Point, point_cmp}
+use Rattle.volume4d.specs.Slab.{slab_has, slabs_have, corner_of}
+use Rattle.volume4d.specs.Sweep.{IsFirstPoint, items_have, Ascend, IsLate, AddsFirst, is_alike, alike_have, KeepsFrom, IsReached, BeginsReached, lanes_have, LanesAscend, HaveAllLeft, IsCovered}
 use Rattle.volume4d.specs.declared.sweep.Lane.{Lane}
-use Rattle.volume4d.specs.Sweep.{items_have, Ascend, IsLate, AddsFirst}
-use Rattle.volume4d.specs.Lanes.{is_alike, alike_have, KeepsFrom, IsReached, BeginsReached, lanes_have, LanesAscend, HaveAllLeft, IsCovered}
 use Rattle.volume4d.proofs.Corners.{corner_position, corner_position_is, corner_up_to, corner_left, corner_right, not_before}
 use Rattle.volume4d.proofs.FirstPoints.{first_point_same}
 use Rattle.volume4d.proofs.Sweeping.{or_assoc, and_last, begins_up_to, found_stays, one_more_placed, in_parts, later_begin}

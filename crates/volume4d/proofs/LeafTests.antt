@@ -3,7 +3,7 @@ use Rattle.std.proofs.Common.{◌≡◌, ℕ, ◌*◌, ◌/◌, ◌^◌, ◌<◌
 use Rattle.std.proofs.lemmas.Bool.{false_from_ne_true}
 use Rattle.s2_hilbert.specs.Curve.{grid_leaf_at}
 use Rattle.s2_hilbert.proofs.lemmas.Curve.{leaf_is}
-use Rattle.volume4d.specs.Point.{is_leaf}
+use Rattle.volume4d.specs.Volume.{is_leaf}
 use Rattle.volume4d.proofs.lemmas.Point.{leaf_test}
 
 -- the leaf at a position passes

@@ -3,9 +3,8 @@ use Rattle.std.proofs.Common.{◌≡◌, ℕ, ◌+◌, ◌<◌, List, [], ◌∷
 use Rattle.std.specs.Prelude.{is_some}
 use Rattle.std.proofs.lemmas.List.{take_more}
 use Rattle.volume4d.specs.declared.slab.Held.{Held}
-use Rattle.volume4d.specs.Point.{Point}
-use Rattle.volume4d.specs.Slab.{slab_has, helds_have, top_held}
-use Rattle.volume4d.specs.Level.{greater, level_where, top_by}
+use Rattle.volume4d.specs.Volume.{Point}
+use Rattle.volume4d.specs.Slab.{slab_has, helds_have, top_held, greater, level_where, top_by}
 use Rattle.volume4d.proofs.lemmas.Level.{greater_none, top_by-cons, top_by-append, is_some_top}
 
 -- the top of one more

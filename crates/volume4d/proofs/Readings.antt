@@ -6,10 +6,10 @@ use Rattle.std.proofs.Common.{ap, sym, ◌∙◌, arith, get_or, take, ◌++◌,
 use Rattle.std.proofs.lemmas.List.{length-map, get_or-map, map_more, take_all}
 use Rattle.std.proofs.lemmas.List.Elements.{All-push}
 use Rattle.s2_cellid.specs.Cell.{IsCellId}
-use Rattle.s2_cover.specs.Rectangles.{RectParts}
+use Rattle.s2_cover.specs.Covers.{RectParts}
 use Rattle.volume4d.specs.VolumeLimits.{within_cells}
-use Rattle.volume4d.specs.Shape.{Shape, cells, rectangle}
-use Rattle.volume4d.specs.FootprintBytes.{footprint_bytes, AreBytesOf}
+use Rattle.volume4d.specs.Volume.{Shape, cells, rectangle}
+use Rattle.volume4d.specs.Footprint.{footprint_bytes, AreBytesOf}
 use Rattle.volume4d.proofs.IdBytes.{bytes_of, ids_of, length-bytes_of, ids_again, bytes_again}
 
 -- the ids that stand behind the first byte

@@ -1,18 +1,17 @@
 -- Which shapes have the bytes of a rectangle.
 use Rattle.std.specs.Prelude.{◌≡◌, ℕ, ◌+◌, ◌^◌, ◌<◌, Bool, true, false, ◌&&◌, cond, nat_lt, if◌then◌else◌, List, [], ◌∷◌, ◌++◌, length, Option, Some, None, MatchOption, Ok, Err, refl}
 use Rattle.std.specs.Result.{result_ok}
-use Rattle.std.specs.Int.{is_in_range}
-use Rattle.std.specs.Int.{w32, to_be_bytes, from_be_bytes}
+use Rattle.std.specs.Int.{is_in_range, w32, to_be_bytes, from_be_bytes}
 use Rattle.std.proofs.lemmas.Bool.{cases_Bool, both_ways}
 use Rattle.std.proofs.lemmas.Bool.Decides.{nat_tests}
 use Rattle.std.proofs.Common.{ap, sym, ◌∙◌, arith, get_or, drop, subst, inl, inr, suc, zero}
 use Rattle.std.proofs.Math.Seq.{drop-cons}
 use Rattle.std.proofs.lemmas.List.{length-drop, nil_from_length}
 use Rattle.std.proofs.lemmas.Nat.{be_bytes_4, from_be_bytes-to_be_bytes_4}
-use Rattle.s2_cover.specs.Rectangles.{RectParts, IsRect, min_level, max_level, are_coordinates, are_ordered, rect_or_fault}
+use Rattle.s2_cover.specs.Covers.{RectParts, IsRect, min_level, max_level, are_coordinates, are_ordered, rect_or_fault}
 use Rattle.s2_cover.specs.declared.rect.RectFault.TheVariants.{Face, Coordinate, Order, Level}
-use Rattle.volume4d.specs.Shape.{Shape, cells, rectangle}
-use Rattle.volume4d.specs.FootprintBytes.{footprint_bytes, HasValidParts, AreBytesOf}
+use Rattle.volume4d.specs.Volume.{Shape, cells, rectangle}
+use Rattle.volume4d.specs.Footprint.{footprint_bytes, HasValidParts, AreBytesOf}
 use Rattle.volume4d.proofs.IdBytes.{bytes_of}
 use Rattle.volume4d.proofs.Readings.{ids_in-bytes_of}
 

@@ -9,16 +9,12 @@ use Rattle.std.proofs.lemmas.List.Sorted.{list_any-IsPermutation}
 use Rattle.s2_hilbert.specs.Curve.{position_of}
 use Rattle.s2_hilbert.proofs.lemmas.Curve.{leaf_undone}
 use Rattle.s2_cover.specs.declared.spans.Span.{Span}
-use Rattle.s2_cover.specs.Ranges.{IsRanges, span_has, spans_have}
+use Rattle.s2_cover.specs.Covers.{IsRanges, span_has, spans_have}
 use Rattle.volume4d.specs.declared.slab.Slab.{Slab}
-use Rattle.volume4d.specs.Point.{Point, is_leaf}
-use Rattle.volume4d.specs.Windows.{WindowParts}
+use Rattle.volume4d.specs.Volume.{Point, is_leaf, WindowParts, shape_has, shape_positions, Block, window_has, block_has, area_has}
 use Rattle.volume4d.proofs.lemmas.Point.{leaf_test}
-use Rattle.volume4d.specs.Shape.{shape_has, shape_positions}
-use Rattle.volume4d.specs.Volume.{Block, window_has, block_has, area_has}
-use Rattle.volume4d.specs.Slab.{slab_has, slabs_have, span_of, slab_window}
+use Rattle.volume4d.specs.Slab.{slab_has, slabs_have, span_of, slab_window, AreSlabsOn, AreVolumeSlabs, AreAreaSlabs, AreSortedSlabs}
 use Rattle.volume4d.proofs.FootprintRanges.{leaves_alone}
-use Rattle.volume4d.specs.Slabs.{AreSlabsOn, AreVolumeSlabs, AreAreaSlabs, AreSortedSlabs}
 
 -- a slab by its span of leaves and its window
 slab_by_parts : (s : Slab) (window : WindowParts) (x : Point) → slab_window s ≡ window

@@ -3,15 +3,10 @@ use Rattle.std.proofs.Common.{◌≡◌, ℕ, ◌*◌, ◌^◌, ◌<◌, ◌≤�
 use Rattle.std.specs.Prelude.{nat_le}
 use Rattle.std.proofs.lemmas.Bool.{and_parts, both_ways, cases_lt, leb-true}
 use Rattle.s2_hilbert.specs.Curve.{grid_leaf_at}
-use Rattle.s2_cover.specs.Canonical.{IsCanonical}
-use Rattle.s2_cover.specs.CanonicalList.{canonical_list}
-use Rattle.s2_cover.specs.Leaves.{leaves_of}
-use Rattle.s2_cover.specs.Ranges.{range_count}
+use Rattle.s2_cover.specs.Covers.{IsCanonical, canonical_list, leaves_of, range_count}
 use Rattle.volume4d.specs.VolumeLimits.{max_cells, max_cover}
-use Rattle.volume4d.specs.Shape.{Shape, cells, rectangle, is_footprint, shape_positions}
-use Rattle.volume4d.specs.SpanCounts.{shape_cells, volume_cells, volume_spans}
-use Rattle.volume4d.specs.Volume.{Block}
-use Rattle.volume4d.specs.FootprintBytes.{HasValidParts}
+use Rattle.volume4d.specs.Volume.{Shape, cells, rectangle, is_footprint, shape_positions, shape_cells, volume_cells, volume_spans, Block}
+use Rattle.volume4d.specs.Footprint.{HasValidParts}
 use Rattle.volume4d.proofs.LeafTests.{no_leaf_at}
 use Rattle.volume4d.proofs.FootprintRanges.{leaves_alone}
 

@@ -11,10 +11,9 @@ use Rattle.std.proofs.lemmas.List.Sorted.{IsNonDecreasingBy-push}
 use Rattle.s2_hilbert.specs.Curve.{position_of}
 use Rattle.s2_cellid.specs.Cell.{leaf_id_at}
 use Rattle.volume4d.specs.declared.slab.Slab.{Slab}
-use Rattle.volume4d.specs.Point.{Point}
+use Rattle.volume4d.specs.Volume.{Point}
 use Rattle.volume4d.specs.Slab.{slab_has}
-use Rattle.volume4d.specs.Meeting.{IsFirstPoint}
-use Rattle.volume4d.specs.Sweep.{items_have, Ascend, IsLate, AreLate}
+use Rattle.volume4d.specs.Sweep.{IsFirstPoint, items_have, Ascend, IsLate, AreLate}
 use Rattle.volume4d.proofs.FirstPoints.{first_point_same}
 use Rattle.volume4d.proofs.lemmas.Slab.{IsIn-from_has}
 

@@ -1,20 +1,5 @@
--- Read first: Limits, Point, Shape, Volume, Meeting.
 pub mod VolumeLimits
-pub mod Windows
-pub mod Point
-pub mod Shape
-pub mod Footprint
-pub mod FootprintBytes
-pub mod Attributes
 pub mod Volume
-pub mod Level
+pub mod Footprint
 pub mod Slab
-pub mod Bounds
-pub mod Slabs
-pub mod SpanCounts
-pub mod Meeting
-pub mod Shared
 pub mod Sweep
-pub mod Lanes
-pub mod Clusters
-pub mod VolumeFaults

@@ -31,8 +31,7 @@ max_volumes = 32
 
 -- altitudes lower <= a < upper within the limits
 abbrev pub within_altitudes : ℤ → ℤ → Bool
-within_altitudes lower upper =
-    int_le min_altitude lower && int_lt lower upper && int_le upper max_altitude
+within_altitudes lower upper = int_le min_altitude lower && int_lt lower upper && int_le upper max_altitude
 
 -- Unix seconds start <= t < end, from 1970 to the limit
 abbrev pub within_times : ℤ → ℤ → Bool

@@ -2,13 +2,7 @@
 
 ghost use Rattle.std.specs.Prelude.{◌≡◌, ◌*◌, ◌<◌, ◌≤◌, Some, None, if◌then◌else◌, IsTrue, IfOk, length};
 ghost use Rattle.std.specs.List.Sorted.{IsPermutation, IsNonDecreasingBy};
-ghost use Rattle.volume4d.specs.VolumeLimits.{max_cover, max_volumes, within_volumes};
-ghost use Rattle.volume4d.specs.Point.{Point};
-ghost use Rattle.volume4d.specs.Slab.{slabs_have};
-ghost use Rattle.volume4d.specs.Bounds.{AreFilled, IsBounds};
-ghost use Rattle.volume4d.specs.Slabs.{AreAreaSlabs, AreSortedSlabs};
-ghost use Rattle.volume4d.specs.SpanCounts.{area_cells, area_spans};
-ghost use Rattle.volume4d.specs.Volume.{is_area, area_has};
+ghost use Rattle.volume4d.specs.{VolumeLimits.max_cover, VolumeLimits.max_volumes, VolumeLimits.within_volumes, Volume.Point, Volume.area_cells, Volume.area_spans, Volume.is_area, Volume.area_has, Slab.slabs_have, Slab.AreFilled, Slab.IsBounds, Slab.AreAreaSlabs, Slab.AreSortedSlabs};
 
 use crate::bounds::bounds_of;
 use crate::slab::Slab;

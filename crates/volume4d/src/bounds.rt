@@ -1,7 +1,6 @@
 //! The smallest slab that has all points of others.
 
-ghost use Rattle.volume4d.specs.Slab.{slabs_have};
-ghost use Rattle.volume4d.specs.Bounds.{AreFilled, IsBounds};
+ghost use Rattle.volume4d.specs.Slab.{slabs_have, AreFilled, IsBounds};
 
 use crate::slab::Slab;
 

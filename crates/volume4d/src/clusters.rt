@@ -1,8 +1,7 @@
 //! Clusters: slabs that lie close to each other along the S2 curve.
 
 ghost use Rattle.std.specs.Prelude.{◌<◌, ◌≤◌, IsTrue, length, take, drop};
-ghost use Rattle.volume4d.specs.Clusters.{AreInTurn, IsCluster};
-ghost use Rattle.volume4d.specs.Sweep.{Ascend};
+ghost use Rattle.volume4d.specs.{Slab.AreInTurn, Slab.IsCluster, Sweep.Ascend};
 
 use crate::slab::Slab;
 

@@ -2,10 +2,8 @@
 
 ghost use Rattle.std.specs.Prelude.{◌≡◌, ◌&&◌, ◌||◌, Bool, int_le, int_lt};
 ghost use Rattle.std.specs.Ordering.{is_lt};
-ghost use Rattle.volume4d.specs.Point.{Point, point_cmp};
-ghost use Rattle.volume4d.specs.Slab.{slab_has_leaf, slab_has};
-ghost use Rattle.volume4d.specs.Meeting.{IsFirstPoint};
-ghost use Rattle.volume4d.specs.Shared as spec;
+ghost use Rattle.volume4d.specs.{Volume.Point, Volume.point_cmp, Slab.slab_has_leaf, Slab.slab_has, Sweep.IsFirstPoint};
+ghost use Rattle.volume4d.specs.Slab as spec;
 
 use crate::slab::Slab;
 use std::marker::Model;
@@ -23,7 +21,7 @@ impl Model for Corner {
     ghost use Rattle.std.specs.Prelude.{◌<◌, ◌*◌, ◌^◌};
     ghost use Rattle.s2_hilbert.specs.Curve.{position_of, grid_leaf_at};
     ghost use Rattle.s2_hilbert.proofs.lemmas.Curve.{position_undone};
-    ghost use Rattle.volume4d.specs.Point.{Point};
+    ghost use Rattle.volume4d.specs.Volume.{Point};
 
     ghost Value = { Point };
 

@@ -20,7 +20,7 @@ pub enum VolumeFault {
 
 impl fmt::Display for VolumeFault {
     ghost use Rattle.std.specs.Prelude.{Some};
-    ghost use Rattle.volume4d.specs.VolumeFaults.{volume_fault_text};
+    ghost use Rattle.volume4d.specs.Volume.{volume_fault_text};
 
     ghost output = { λ fault. Some (volume_fault_text fault) };
 

@@ -1,16 +1,10 @@
 //! Footprints: the ground that a volume covers, and its bytes.
 
 ghost use Rattle.std.specs.Prelude.{◌≡◌, ◌+◌, ◌≤◌, [], ◌∷◌, IfOk, IfErr, MatchOption, length, slice_index};
-ghost use Rattle.std.specs.Int.{w32, w64, to_be_bytes, from_be_bytes};
-ghost use Rattle.std.specs.Option.{SomeIff};
+ghost use Rattle.std.specs.{Int.w32, Int.w64, Int.to_be_bytes, Int.from_be_bytes, Option.SomeIff};
 ghost use Rattle.s2_cellid.specs.Cell.{IsCellId};
-ghost use Rattle.volume4d.specs.VolumeLimits.{within_cells};
-ghost use Rattle.volume4d.specs.Shape as shapes;
-ghost use Rattle.volume4d.specs.Shape.{Shape};
-ghost use Rattle.volume4d.specs.Footprint.{shape_of};
-ghost use Rattle.volume4d.specs.SpanCounts.{shape_cells};
-ghost use Rattle.volume4d.specs.FootprintBytes.{footprint_bytes, HasValidParts, AreBytesOf};
-ghost use Rattle.volume4d.specs.Attributes.{HasRanges, IsFaultOf};
+ghost use Rattle.volume4d.specs.{VolumeLimits.within_cells, Volume.Shape, Volume.shape_cells, Volume.HasRanges, Volume.IsFaultOf, Footprint.shape_of, Footprint.footprint_bytes, Footprint.HasValidParts, Footprint.AreBytesOf};
+ghost use Rattle.volume4d.specs.Volume as shapes;
 
 use crate::fault::VolumeFault;
 use s2_cellid::CellId;

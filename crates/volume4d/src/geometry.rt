@@ -2,10 +2,8 @@
 
 ghost use Rattle.std.specs.Prelude.{◌≡◌, ◌&&◌, false, int_lt, nat_le};
 ghost use Rattle.std.specs.Int.{int_min, int_max};
-ghost use Rattle.volume4d.specs.Point.{Point};
-ghost use Rattle.volume4d.specs.Slab.{slab_has};
-ghost use Rattle.volume4d.specs.Bounds as spec;
-ghost use Rattle.volume4d.specs.Bounds.{IsClip, IsJoin};
+ghost use Rattle.volume4d.specs.{Volume.Point, Slab.slab_has, Slab.IsClip, Slab.IsJoin};
+ghost use Rattle.volume4d.specs.Slab as spec;
 
 use crate::slab::Slab;
 

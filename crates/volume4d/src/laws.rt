@@ -1,12 +1,9 @@
 //! Laws of the definitions of footprints. Each is the contract of a function that does nothing else.
 
 ghost use Rattle.std.specs.Prelude.{◌≡◌, ◌≤◌, IsTrue, length};
-ghost use Rattle.s2_cover.specs.CanonicalList.{canonical_list};
-ghost use Rattle.volume4d.specs.VolumeLimits.{max_cover};
-ghost use Rattle.volume4d.specs.Shape.{Shape, is_footprint, shape_positions};
-ghost use Rattle.volume4d.specs.FootprintBytes.{HasValidParts, footprint_bytes};
-ghost use Rattle.volume4d.specs.SpanCounts.{volume_cells, volume_spans};
-ghost use Rattle.volume4d.specs.Volume.{Block};
+ghost use Rattle.s2_cover.specs.Covers.{canonical_list};
+ghost use Rattle.volume4d.specs.{VolumeLimits.max_cover, Footprint.HasValidParts, Footprint.footprint_bytes};
+ghost use Rattle.volume4d.specs.Volume.{Shape, is_footprint, shape_positions, volume_cells, volume_spans, Block};
 
 use s2_cover::laws::{
     canonical_list_exists, canonical_list_is, equal_sets_have_equal_covers, one_canonical_list,

@@ -2,13 +2,10 @@
 
 ghost use Rattle.std.specs.Prelude.{◌≡◌, ◌&&◌, ◌↔◌, IsTrue, true, Some, List};
 ghost use Rattle.std.specs.Option.{option_map};
-ghost use Rattle.s2_cellid.specs.Family.{leaf_id};
+ghost use Rattle.s2_cellid.specs.Cell.{leaf_id};
 ghost use Rattle.volume4d.specs.declared.slab.Slab.{Slab};
-ghost use Rattle.volume4d.specs.Point.{Point};
-ghost use Rattle.volume4d.specs.Slab.{slab_has, slabs_have, helds_have, top_held};
-ghost use Rattle.volume4d.specs.Level.{greater, level_where};
-ghost use Rattle.volume4d.specs.Meeting.{IsFirst, IsFirstPoint};
-ghost use Rattle.volume4d.specs.Shared.{is_shared};
+ghost use Rattle.volume4d.specs.{Volume.Point, Sweep.IsFirst, Sweep.IsFirstPoint};
+ghost use Rattle.volume4d.specs.Slab.{slab_has, slabs_have, helds_have, top_held, greater, level_where, is_shared};
 
 use crate::corner::{Corner, has};
 use crate::slab::{Held, Slab};
@@ -35,7 +32,7 @@ impl Model for Meeting {
     ghost use Rattle.std.specs.Prelude.{◌<◌, ◌*◌, ◌^◌};
     ghost use Rattle.s2_hilbert.specs.Curve.{position_of, grid_leaf_at};
     ghost use Rattle.s2_hilbert.proofs.lemmas.Curve.{position_undone};
-    ghost use Rattle.volume4d.specs.Meeting.{Spot};
+    ghost use Rattle.volume4d.specs.Sweep.{Spot};
 
     ghost Value = { Spot };
 

@@ -5,12 +5,8 @@ ghost use Rattle.std.specs.Prelude.{◌≡◌, ◌≤◌, ◌&&◌, nat_lt, true
 ghost use Rattle.std.specs.List.{list_any};
 ghost use Rattle.s2_hilbert.specs.Curve.{position_of};
 ghost use Rattle.volume4d.specs.declared.slab.Slab.{Slab};
-ghost use Rattle.volume4d.specs.Point.{Point};
-ghost use Rattle.volume4d.specs.Slab.{slab_has, slabs_have};
-ghost use Rattle.volume4d.specs.Meeting.{IsFirstPoint};
-ghost use Rattle.volume4d.specs.Sweep.{items_have, Ascend, IsPassed, AreLate, AddsFirst};
-ghost use Rattle.volume4d.specs.Lanes.{is_alike, alike_have, KeepsFrom, IsReached, BeginsReached};
-ghost use Rattle.volume4d.specs.Lanes.{lanes_have, LanesAscend, HaveAllLeft, IsCovered};
+ghost use Rattle.volume4d.specs.{Volume.Point, Slab.slab_has, Slab.slabs_have};
+ghost use Rattle.volume4d.specs.Sweep.{IsFirstPoint, items_have, Ascend, IsPassed, AreLate, AddsFirst, is_alike, alike_have, KeepsFrom, IsReached, BeginsReached, lanes_have, LanesAscend, HaveAllLeft, IsCovered};
 
 use crate::area::MAX_VOLUMES;
 use crate::corner::{Corner, earlier, least_corner};

@@ -1,19 +1,10 @@
 //! Volumes.
 
 ghost use Rattle.std.specs.Prelude.{◌≡◌, ◌≤◌, IsTrue, IfOk, IfErr, All};
-ghost use Rattle.s2_cover.specs.Canonical.{IsCanonical};
-ghost use Rattle.s2_cover.specs.Ranges.{IsSpan};
-ghost use Rattle.volume4d.specs.Point.{Point};
-ghost use Rattle.volume4d.specs.Windows.{is_window};
-ghost use Rattle.volume4d.specs.Footprint.{shape_of};
-ghost use Rattle.volume4d.specs.VolumeLimits.{max_cover};
-ghost use Rattle.volume4d.specs.SpanCounts.{volume_cells, volume_spans};
-ghost use Rattle.volume4d.specs.Shape.{Shape, shape_positions, is_footprint};
-ghost use Rattle.volume4d.specs.Volume.{block_has};
-ghost use Rattle.volume4d.specs.Slab.{slabs_have, span_of, slab_window};
-ghost use Rattle.volume4d.specs.Bounds.{AreFilled};
-ghost use Rattle.volume4d.specs.Slabs.{AreSlabsOn, AreVolumeSlabs};
-ghost use Rattle.volume4d.specs.Attributes.{IsFaultOf, HasRanges};
+ghost use Rattle.s2_cover.specs.Covers.{IsCanonical, IsSpan};
+ghost use Rattle.volume4d.specs.Volume.{Point, is_window, volume_cells, volume_spans, Shape, shape_positions, is_footprint, block_has, IsFaultOf, HasRanges};
+ghost use Rattle.volume4d.specs.{Footprint.shape_of, VolumeLimits.max_cover};
+ghost use Rattle.volume4d.specs.Slab.{slabs_have, span_of, slab_window, AreFilled, AreSlabsOn, AreVolumeSlabs};
 
 use crate::fault::VolumeFault;
 use crate::footprint::Footprint;
@@ -42,9 +33,7 @@ pub struct Volume {
 
 impl Model for Volume {
     ghost use Rattle.std.specs.Prelude.{IsTrue};
-    ghost use Rattle.volume4d.specs.Windows.{is_window};
-    ghost use Rattle.volume4d.specs.Attributes.{KeepsRanges};
-    ghost use Rattle.volume4d.specs.Volume.{Block};
+    ghost use Rattle.volume4d.specs.Volume.{is_window, KeepsRanges, Block};
 
     ghost Value = { Block };
 

@@ -1,8 +1,7 @@
 //! The altitudes and times of a volume.
 
 ghost use Rattle.std.specs.Prelude.{◌≡◌, pos, ◌≤ℤ◌, ◌<ℤ◌, IsTrue};
-ghost use Rattle.volume4d.specs.VolumeLimits.{within_altitudes, within_times, within_length};
-ghost use Rattle.volume4d.specs.Windows.{window_or_fault, is_window};
+ghost use Rattle.volume4d.specs.{VolumeLimits.within_altitudes, VolumeLimits.within_times, VolumeLimits.within_length, Volume.window_or_fault, Volume.is_window};
 
 use std::error::Error;
 use std::fmt;
@@ -31,7 +30,7 @@ pub enum WindowFault {
 
 impl fmt::Display for WindowFault {
     ghost use Rattle.std.specs.Prelude.{Some};
-    ghost use Rattle.volume4d.specs.VolumeFaults.{window_fault_text};
+    ghost use Rattle.volume4d.specs.Volume.{window_fault_text};
 
     ghost output = { λ fault. Some (window_fault_text fault) };
 
@@ -48,7 +47,7 @@ impl Error for WindowFault {}
 
 impl Model for Window {
     ghost use Rattle.std.specs.Prelude.{IsTrue};
-    ghost use Rattle.volume4d.specs.Windows.{WindowParts, is_window};
+    ghost use Rattle.volume4d.specs.Volume.{WindowParts, is_window};
 
     ghost Value = { WindowParts };
 

@@ -1,10 +1,10 @@
 -- Laws of the greatest priority of plans, with their proofs.
 use Rattle.std.specs.Prelude.{◌≡◌, List, [], ◌∷◌, None, refl}
-use Rattle.volume4d.specs.Point.{Point}
-use Rattle.volume4d.specs.Level.{greater, level_where}
+use Rattle.volume4d.specs.Volume.{Point}
+use Rattle.volume4d.specs.Slab.{greater, level_where}
 use Rattle.volume4d.proofs.lemmas.Level.{top_by-cons}
 use Rattle.desk_rules.specs.declared.plan.PlanRow.{PlanRow}
-use Rattle.desk_rules.specs.Plan.{row_holds, top_priority}
+use Rattle.desk_rules.specs.Outcome.{row_holds, top_priority}
 
 -- the greatest priority with one more plan
 pub top_priority-cons :

@@ -1,13 +1,11 @@
 -- What may be found after a call that reads, and after one that changes, with the proofs.
 use Rattle.std.proofs.Common.{◌≡◌, ◌≤◌, ◌⊎◌, ℕ, inl, inr, ap, sym, ◌∙◌, Option, Some, None, IfSome, arith}
-use Rattle.desk_store.specs.World.{World}
+use Rattle.desk_store.specs.World.{World, LeavesNoMore, LeavesOldOr, LeavesOnly}
 use Rattle.desk_store.specs.declared.store.PlanStore.{Ghosts}
-use Rattle.desk_store.specs.Crashes.{LeavesNoMore, LeavesOldOr, LeavesOnly}
-use Rattle.desk_store.specs.StoreFaults.{IsHonest, HasRisen}
-use Rattle.desk_store.specs.StoreFrames.{Remembers}
+use Rattle.desk_store.specs.Changes.{IsHonest, HasRisen, Remembers}
 use Rattle.desk_store.proofs.lemmas.Fault.{was_honest}
-use Rattle.desk_run.specs.DeskFrames.{Leaves}
-use Rattle.desk_run.specs.DeskWorld.{DeskWorld, IsSettledOrSame, Parts, world_of}
+use Rattle.desk_run.specs.Calls.{Leaves}
+use Rattle.desk_run.specs.Verdicts.{DeskWorld, IsSettledOrSame, Parts, world_of}
 use Rattle.desk_run.specs.declared.fault.DeskFault.{DeskFault}
 use Rattle.desk_run.specs.declared.fault.DeskFault.TheVariants.{Store}
 

@@ -7,9 +7,8 @@ use Rattle.std.specs.declared.cmp.Ordering.{Ordering}
 use Rattle.std.specs.Cmp.Lexicographic.{nat_list_cmp_total}
 use Rattle.std.proofs.lemmas.Cmp.{tied_itself}
 use Rattle.std.proofs.lemmas.List.Elements.{filter-append}
-use Rattle.volume4d.specs.Point.{Point}
-use Rattle.volume4d.specs.Meeting.{Spot}
-use Rattle.volume4d.specs.Volume.{Block}
+use Rattle.volume4d.specs.Volume.{Point, Block}
+use Rattle.volume4d.specs.Sweep.{Spot}
 use Rattle.desk_rules.specs.declared.plan.PlanRow.{PlanRow}
 use Rattle.desk_rules.specs.declared.plan.PutCall.{PutCall}
 use Rattle.desk_rules.specs.declared.plan.States.{States}
@@ -28,13 +27,11 @@ use Rattle.desk_rules.specs.declared.decide.Effect.TheVariants as effect
 use Rattle.desk_rules.specs.declared.terms.Terms.{Terms}
 use Rattle.desk_rules.specs.declared.call.Call.{Call}
 use Rattle.desk_rules.specs.declared.call.Call.TheVariants as call
-use Rattle.desk_rules.specs.States.{step_from, step_from_closed, step_from_contingency, step_from_none, step_from_planned, step_from_states, step_from_use}
-use Rattle.desk_rules.specs.Outcome.{note_from, outcome_under, step_effect, styled_effect, verdict_from}
+use Rattle.desk_rules.specs.Outcome.{step_from, step_from_closed, step_from_contingency, step_from_none, step_from_planned, step_from_states, step_from_use, note_from, outcome_under, step_effect, styled_effect, verdict_from}
 use Rattle.desk_store.specs.World.{Filed, Listed, Own, World, own, text_cmp, has_id, stored_of, ceiling_of}
 use Rattle.desk_store.specs.Changes.{put_row, closed, close_row, filed_by, is_before, is_after, replaced, with_plans, list_operator, with_operator}
 use Rattle.desk_store.proofs.lemmas.World.{own_replaced}
-use Rattle.desk_run.specs.DeskWorld.{DeskWorld, enrolled, held_in}
-use Rattle.desk_run.specs.Verdicts.{put_outcome, plans_left, put_ruling, row_asked, delete_ruling, show_ruling, clear_ruling, is_in, enrolled_ruling, ruling_under, verdict, world_with_plans, ruling_in, step}
+use Rattle.desk_run.specs.Verdicts.{DeskWorld, enrolled, held_in, put_outcome, plans_left, put_ruling, row_asked, delete_ruling, show_ruling, clear_ruling, is_in, enrolled_ruling, ruling_under, verdict, world_with_plans, ruling_in, step}
 
 -- ---- the changes of rows
 

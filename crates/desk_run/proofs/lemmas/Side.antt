@@ -4,15 +4,15 @@ use Rattle.std.proofs.Common.{◌≡◌, ℕ, Bool, true, false, cond, List, [],
 use Rattle.std.proofs.Common.{ap, ◌∙◌}
 use Rattle.std.proofs.Math.Path.{fun_ext}
 use Rattle.std.specs.List.{AllZip}
-use Rattle.volume4d.specs.Point.{Point, is_leaf}
-use Rattle.volume4d.specs.Level.{greater, level_where}
+use Rattle.volume4d.specs.Volume.{Point, is_leaf}
+use Rattle.volume4d.specs.Slab.{greater, level_where}
 use Rattle.volume4d.proofs.lemmas.Volume.{area_leaf}
 use Rattle.desk_rules.specs.declared.plan.PlanRow.{PlanRow}
-use Rattle.desk_rules.specs.Plan.{is_live, row_holds, top_priority}
+use Rattle.desk_rules.specs.Outcome.{is_live, row_holds, top_priority}
 use Rattle.desk_rules.proofs.lemmas.Plan.{top_priority-cons, top_priority-nil}
 use Rattle.desk_store.specs.World.{held, others_of}
-use Rattle.desk_run.specs.DeskWorld.{DeskWorld, Side, side, held_in}
-use Rattle.desk_run.specs.Sides.{OwnAlike, HoldAlike, is_from, beside, along}
+use Rattle.desk_run.specs.Verdicts.{DeskWorld, Side, side, held_in}
+use Rattle.desk_run.specs.Calls.{OwnAlike, HoldAlike, is_from, beside, along}
 use Rattle.std.proofs.lemmas.Bool.{and_parts}
 
 -- a plan holds no point off the leaves

@@ -9,8 +9,7 @@ use Rattle.desk_rules.specs.declared.call.Call.{Call}
 use Rattle.desk_rules.specs.declared.call.Call.TheVariants.{Delete}
 use Rattle.desk_store.specs.World.{World, IsWorld, Own, own, text_cmp, ceiling_of, plans_of, stored_of}
 use Rattle.desk_store.specs.Changes.{with_plans}
-use Rattle.desk_run.specs.DeskWorld.{DeskWorld, side, held_in}
-use Rattle.desk_run.specs.Verdicts.{delete_ruling, enrolled_ruling, ruling_under, ruling_in, world_with_plans, makes_change, step, verdict, side_left}
+use Rattle.desk_run.specs.Verdicts.{DeskWorld, side, held_in, delete_ruling, enrolled_ruling, ruling_under, ruling_in, world_with_plans, makes_change, step, verdict, side_left}
 use Rattle.desk_store.proofs.lemmas.Order.{rows_sorted}
 use Rattle.desk_store.proofs.lemmas.World.{own_replaced, others_kept, close_closed, replaced_by_own}
 

@@ -5,11 +5,8 @@ use Rattle.std.specs.Ordering.{is_eq}
 use Rattle.std.proofs.lemmas.Map.Lookups.{exact_bytes}
 use Rattle.desk_store.specs.World.{own, text_cmp}
 use Rattle.desk_store.proofs.lemmas.Order.{is_equal}
-use Rattle.desk_run.specs.DeskWorld.{DeskWorld, Side, side, held_in}
-use Rattle.desk_run.specs.Verdicts.{Reported, verdict, side_left, reported_to, step}
-use Rattle.desk_run.specs.Runs.{reported_in, world_after_calls}
-use Rattle.desk_run.specs.Sides.{OwnAlike, HoldAlike, beside, along}
-use Rattle.desk_run.specs.CallRuns.{TimedCall, caller, world_after_call, calls_of, met_by_calls, AreCallsSameFor}
+use Rattle.desk_run.specs.Verdicts.{DeskWorld, Side, side, held_in, Reported, verdict, side_left, reported_to, step}
+use Rattle.desk_run.specs.Calls.{reported_in, world_after_calls, OwnAlike, HoldAlike, beside, along, TimedCall, caller, world_after_call, calls_of, met_by_calls, AreCallsSameFor}
 use Rattle.desk_run.proofs.lemmas.Step.{own_stays, others_stay}
 use Rattle.desk_run.proofs.lemmas.Side.{everywhere, Levels, IsSeenBy, IsKeptBy, after_all, same_found, same_last}
 

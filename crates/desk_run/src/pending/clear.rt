@@ -1,14 +1,10 @@
 //! Clears: the removal of an operator's plans. A function fails only if memory runs out or the store fails.
 
 ghost use Rattle.std.specs.Prelude.{◌≡◌, ◌≤◌, ◌<◌, ◌^◌, ◌∷◌, [], length, IsSome, IfOk, IfErr};
-ghost use Rattle.desk_run.specs.CallFaults.{IsStoreFaultCounted};
-ghost use Rattle.desk_store.specs.StoreFrames.{OnlyReads};
-ghost use Rattle.desk_store.specs.StoreFaults.{IsHonest};
-ghost use Rattle.desk_store.specs.World.{ceiling_of, plans_of};
-ghost use Rattle.desk_rules.specs.Bridge.{AreSlabsOf};
+ghost use Rattle.desk_run.specs.{Calls.IsStoreFaultCounted, Calls.IsClearing, Calls.IsPreparedFor, Calls.ids_in, Verdicts.clear_ruling, Verdicts.is_in};
+ghost use Rattle.desk_store.specs.{Changes.OnlyReads, Changes.IsHonest, World.ceiling_of, World.plans_of};
+ghost use Rattle.desk_rules.specs.Conflict.{AreSlabsOf};
 ghost use Rattle.volume4d.specs.Volume.{Block};
-ghost use Rattle.desk_run.specs.Calls.{IsClearing, IsPreparedFor, ids_in};
-ghost use Rattle.desk_run.specs.Verdicts.{clear_ruling, is_in};
 
 use super::Pending;
 use crate::fault::DeskFault;

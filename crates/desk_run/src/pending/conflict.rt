@@ -2,9 +2,8 @@
 //! fails.
 
 ghost use Rattle.std.specs.Prelude.{◌≡◌, ◌≤◌, ◌^◌, IfOk, IfErr};
-ghost use Rattle.desk_store.specs.StoreFrames.{OnlyReads};
-ghost use Rattle.desk_store.specs.StoreFaults.{IsHonest, IsCounted};
-ghost use Rattle.desk_rules.specs.Permission.{least_blocking};
+ghost use Rattle.desk_store.specs.Changes.{OnlyReads, IsHonest, IsCounted};
+ghost use Rattle.desk_rules.specs.Limits.{least_blocking};
 ghost use Rattle.desk_run.specs.Verdicts.{conflict_in};
 
 use super::pieces::first_among;

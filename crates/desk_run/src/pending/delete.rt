@@ -2,12 +2,8 @@
 //! fails.
 
 ghost use Rattle.std.specs.Prelude.{◌≡◌, ◌≤◌, IsSome, IfErr};
-ghost use Rattle.desk_run.specs.CallFaults.{IsStoreFaultCounted};
-ghost use Rattle.desk_store.specs.StoreFrames.{OnlyReads};
-ghost use Rattle.desk_store.specs.StoreFaults.{IsHonest};
-ghost use Rattle.desk_store.specs.World.{ceiling_of, plans_of, stored_of};
-ghost use Rattle.desk_run.specs.Calls.{IsPreparedFor};
-ghost use Rattle.desk_run.specs.Verdicts.{delete_ruling};
+ghost use Rattle.desk_run.specs.{Calls.IsStoreFaultCounted, Calls.IsPreparedFor, Verdicts.delete_ruling};
+ghost use Rattle.desk_store.specs.{Changes.OnlyReads, Changes.IsHonest, World.ceiling_of, World.plans_of, World.stored_of};
 
 use super::Pending;
 use crate::fault::DeskFault;

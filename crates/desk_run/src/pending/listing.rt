@@ -2,16 +2,10 @@
 //! read once. A function fails only if memory runs out or the store fails.
 
 ghost use Rattle.std.specs.Prelude.{◌≡◌, ◌≤◌, ℕ, Option, true, map, IfOk, IfErr, OnOk};
-ghost use Rattle.desk_store.specs.StoreFrames.{OnlyReads};
-ghost use Rattle.desk_store.specs.StoreFaults.{IsHonest, IsCounted};
-ghost use Rattle.desk_store.specs.World.{held, held_at};
-ghost use Rattle.volume4d.specs.Point.{Point};
-ghost use Rattle.volume4d.specs.Slab.{top_held};
-ghost use Rattle.volume4d.specs.Sweep.{Ascend};
-ghost use Rattle.desk_rules.specs.Conflict.{at_least};
-ghost use Rattle.desk_rules.specs.Plan.{row_holds};
-ghost use Rattle.desk_run.specs.HeldAmong.{AddLevelAt, HaveAll, HaveLevelAt, own_top, some_hold};
-ghost use Rattle.desk_run.specs.Verdicts.{conflict_shown, shown_plan};
+ghost use Rattle.desk_store.specs.{Changes.OnlyReads, Changes.IsHonest, Changes.IsCounted, World.held, World.held_at};
+ghost use Rattle.volume4d.specs.{Volume.Point, Slab.top_held, Sweep.Ascend};
+ghost use Rattle.desk_rules.specs.{Conflict.at_least, Outcome.row_holds};
+ghost use Rattle.desk_run.specs.{HeldAmong.AddLevelAt, HeldAmong.HaveAll, HeldAmong.HaveLevelAt, HeldAmong.own_top, HeldAmong.some_hold, Verdicts.conflict_shown, Verdicts.shown_plan};
 
 use super::conflict::least_of;
 use super::own::OwnPlan;

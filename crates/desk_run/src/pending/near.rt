@@ -2,11 +2,7 @@
 //! the number of one. A function fails only if memory runs out.
 
 ghost use Rattle.std.specs.Prelude.{◌≡◌, None, true, false, nat_le, OnOk};
-ghost use Rattle.volume4d.specs.Bounds.{HasAll};
-ghost use Rattle.volume4d.specs.Level.{level_where};
-ghost use Rattle.volume4d.specs.Point.{Point};
-ghost use Rattle.volume4d.specs.Slab.{slab_has, slabs_have, top_held};
-ghost use Rattle.volume4d.specs.Sweep.{Ascend};
+ghost use Rattle.volume4d.specs.{Slab.HasAll, Slab.level_where, Slab.slab_has, Slab.slabs_have, Slab.top_held, Volume.Point, Sweep.Ascend};
 ghost use Rattle.desk_rules.specs.Conflict.{at_least};
 ghost use Rattle.desk_run.specs.HeldAmong.{AddLevelAt, AreAfter, AreLeft, HaveAll};
 

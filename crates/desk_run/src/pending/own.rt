@@ -1,14 +1,8 @@
 //! Plans of an operator, with the slabs that they hold. A function fails only if memory runs out.
 
 ghost use Rattle.std.specs.Prelude.{◌≡◌, ◌&&◌, ℕ, List, Option, true, not, nat_le, All, IfOk, OnOk};
-ghost use Rattle.volume4d.specs.Bounds.{IsFilled};
-ghost use Rattle.volume4d.specs.Point.{Point};
-ghost use Rattle.volume4d.specs.Slab.{slabs_have, top_held};
-ghost use Rattle.volume4d.specs.Sweep.{Ascend};
-ghost use Rattle.volume4d.specs.Volume.{area_has};
-ghost use Rattle.desk_rules.specs.Conflict.{at_least, conflict};
-ghost use Rattle.desk_rules.specs.Permission.{least_blocking};
-ghost use Rattle.desk_rules.specs.Plan.{is_live, row_holds};
+ghost use Rattle.volume4d.specs.{Slab.IsFilled, Slab.slabs_have, Slab.top_held, Volume.Point, Volume.area_has, Sweep.Ascend};
+ghost use Rattle.desk_rules.specs.{Conflict.at_least, Conflict.conflict, Limits.least_blocking, Outcome.is_live, Outcome.row_holds};
 ghost use Rattle.desk_store.specs.World.{has_id};
 ghost use Rattle.desk_run.specs.HeldAmong.{AddLevelAt, HaveAll, HaveLevelAt, Keep, own_level};
 

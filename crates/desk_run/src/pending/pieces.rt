@@ -2,11 +2,9 @@
 //! piece, along the curve. A function fails only if memory runs out or the store fails.
 
 ghost use Rattle.std.specs.Prelude.{◌+◌, ◌<◌, ◌*◌, ◌^◌, IfOk, IfErr};
-ghost use Rattle.desk_store.specs.StoreFrames.{OnlyReads};
-ghost use Rattle.desk_store.specs.StoreFaults.{IsHonest, IsCounted};
-ghost use Rattle.volume4d.specs.Bounds.{AreFilled};
-ghost use Rattle.desk_run.specs.ConflictParts.{IsFirstAmong};
-ghost use Rattle.desk_run.specs.Pieces.{AreCut, IsCutTo, IsFirstBlockedAt, IsPiece};
+ghost use Rattle.desk_store.specs.Changes.{OnlyReads, IsHonest, IsCounted};
+ghost use Rattle.volume4d.specs.Slab.{AreFilled};
+ghost use Rattle.desk_run.specs.HeldAmong.{IsFirstAmong, AreCut, IsCutTo, IsFirstBlockedAt, IsPiece};
 
 use super::conflict::least_of;
 use super::windows::extents_in;

@@ -1,16 +1,10 @@
 //! Requests to plan, decided over a store. A function fails only if memory runs out or the store fails.
 
 ghost use Rattle.std.specs.Prelude.{◌≡◌, ◌+◌, ◌≤◌, length, Option, Some, None, true, false, cond, IfOk, IfErr};
-ghost use Rattle.desk_run.specs.CallFaults.{IsStoreFaultCounted};
-ghost use Rattle.desk_store.specs.StoreFrames.{OnlyReads};
-ghost use Rattle.desk_store.specs.StoreFaults.{IsHonest, IsCounted};
-ghost use Rattle.desk_rules.specs.Limits.{max_priority};
-ghost use Rattle.desk_store.specs.World.{own, ceiling_of, plans_of, stored_of, held};
-ghost use Rattle.desk_run.specs.Calls.{IsPreparedFor, change_after};
-ghost use Rattle.desk_rules.specs.Outcome.{outcome_under, is_check};
-ghost use Rattle.desk_rules.specs.States.{states_of, step_from};
-ghost use Rattle.volume4d.specs.Meeting.{Spot};
-ghost use Rattle.desk_run.specs.Verdicts.{put_ruling, put_verdict_in, excess_asked, row_asked, conflict_in};
+ghost use Rattle.desk_run.specs.{Calls.IsStoreFaultCounted, Calls.IsPreparedFor, Calls.change_after, Verdicts.put_ruling, Verdicts.put_verdict_in, Verdicts.excess_asked, Verdicts.row_asked, Verdicts.conflict_in};
+ghost use Rattle.desk_store.specs.{Changes.OnlyReads, Changes.IsHonest, Changes.IsCounted, World.own, World.ceiling_of, World.plans_of, World.stored_of, World.held};
+ghost use Rattle.desk_rules.specs.{Limits.max_priority, Outcome.outcome_under, Outcome.is_check, Outcome.states_of, Outcome.step_from};
+ghost use Rattle.volume4d.specs.Sweep.{Spot};
 
 use super::Pending;
 use super::conflict::conflict_of;

@@ -2,12 +2,8 @@
 //! runs out or the store fails.
 
 ghost use Rattle.std.specs.Prelude.{◌≡◌, ◌≤◌, map, IfOk, IfErr};
-ghost use Rattle.desk_run.specs.CallFaults.{IsStoreFaultCounted};
-ghost use Rattle.desk_store.specs.StoreFrames.{OnlyReads};
-ghost use Rattle.desk_store.specs.StoreFaults.{IsHonest, IsCounted};
-ghost use Rattle.desk_store.specs.World.{held, plans_of, stored_of};
-ghost use Rattle.desk_run.specs.Calls.{IsPreparedFor};
-ghost use Rattle.desk_run.specs.Verdicts.{conflict_shown_in, list_ruling, show_ruling, shown_in};
+ghost use Rattle.desk_run.specs.{Calls.IsStoreFaultCounted, Calls.IsPreparedFor, Verdicts.conflict_shown_in, Verdicts.list_ruling, Verdicts.show_ruling, Verdicts.shown_in};
+ghost use Rattle.desk_store.specs.{Changes.OnlyReads, Changes.IsHonest, Changes.IsCounted, World.held, World.plans_of, World.stored_of};
 
 use super::Pending;
 use super::conflict::conflict_of;

@@ -3,8 +3,7 @@
 
 ghost use Rattle.std.specs.Prelude.{◌<◌, ◌≤◌, ◌+◌, length, IfOk, IfSome, IsTrue, OnOk};
 ghost use Rattle.volume4d.specs.Slab.{slab_has, slabs_have};
-ghost use Rattle.desk_run.specs.HeldAmong.{HaveAll, Keep};
-ghost use Rattle.desk_run.specs.Pieces.{HavePart};
+ghost use Rattle.desk_run.specs.HeldAmong.{HaveAll, Keep, HavePart};
 
 use super::conflict::wide_gap;
 use super::pieces::cut;

@@ -13,10 +13,9 @@ use Rattle.sqlite.specs.State.{HasCleanDisk, Survives, CommitsShowing, Shown, Sh
 use Rattle.sqlite.proofs.Callers.{never_commits, unchanged_then}
 use Rattle.desk_sql.specs.Schema.{desk_schema}
 use Rattle.desk_sql.specs.Rows.{IsDesk, Tables, tables_of}
-use Rattle.desk_sql.specs.Effects.{StaysShown, Makes, Commits, MayMake, Spares, ShowsAsBefore}
-use Rattle.desk_sql.specs.Frames.{OnlyReads, Remembers}
+use Rattle.desk_sql.specs.Effects.{StaysShown, Makes, Commits, MayMake, Spares, ShowsAsBefore, OnlyReads, Remembers}
 use Rattle.desk_sql.proofs.lemmas.Read.{failed, if_either, unmoved}
-use Rattle.desk_sql.specs.Taking.{HandsAll, IsLeft}
+use Rattle.desk_sql.specs.Queries.{HandsAll, IsLeft}
 use Rattle.desk_sql.proofs.AskLemmas.{KnownPlain}
 use Rattle.desk_sql.proofs.TakingLemmas.{shown_from, rolled_back, begun, shown_if, left_then}
 

@@ -32,8 +32,7 @@ use Rattle.sqlite.proofs.Callers.{IsPlain, reads_as, command_of}
 use Rattle.desk_sql.specs.Rows.{IsDesk, Tables, tables_of, Lists, is_text, is_same, differs, is_at_most, is_at_least, is_below, is_above}
 use Rattle.desk_sql.specs.Effects.{ShowsAsBefore}
 use Rattle.desk_sql.specs.Schema.{desk_schema}
-use Rattle.desk_sql.specs.Refusals.{IsSureGiven, IsSureMeaning}
-use Rattle.desk_sql.specs.Statements.{MayRead, Selects}
+use Rattle.desk_sql.specs.Statements.{IsSureGiven, IsSureMeaning, MayRead, Selects}
 use Rattle.desk_sql.proofs.lemmas.QueryTexts.{IsQueryIn, query_of}
 
 -- ---- the connection was open, and shows what it showed

@@ -1,8 +1,7 @@
 -- From rowids that rise to tables whose rows are numbered.
 use Rattle.std.proofs.Common.{Ok, Err, Result, IfErr, OnErr, inl, inr, IsSorted, Ordering, is_lt, add-one, arith, ◌≡◌, ℤ, Bool, true, false, cond, Option, None, Some, List, [], ◌∷◌, ◌++◌, ◌&&◌, append-nil, append_assoc, map, refl, sym, ap, subst, ◌∙◌, Less, Equal, Greater, int_lt, true≢false, IsTrue, IsPermutation, ℕ, codes, if◌then◌else◌, ◌≤◌, suc}
 use Rattle.std.specs.Prelude.{⊤, IsSome}
-use Rattle.std.specs.Ordering.{ordering_then, ordering_reverse}
-use Rattle.std.specs.Ordering.{is_eq}
+use Rattle.std.specs.Ordering.{ordering_then, ordering_reverse, is_eq}
 use Rattle.std.specs.List.{AllByRecursion, IsDistinct, flat_map, list_all}
 use Rattle.std.proofs.lemmas.List.Sorted.{IsPermutation-sym}
 use Rattle.std.proofs.lemmas.Result.{on_err_weaker}
@@ -28,11 +27,8 @@ use Rattle.sqlite.specs.Table.{Table}
 use Rattle.sqlite_schema.specs.declared.schema.Index.{Index}
 use Rattle.desk_sql.specs.Schema.{schema_to, tree_of, HasTable}
 use Rattle.desk_sql.specs.Rows.{AreNumbered, Lists, by_cells}
-use Rattle.desk_sql.specs.Refusals.{IsRefusal, IsUnnumbered, AreRowsUnread, IsMisnumbered, IsSure}
-use Rattle.desk_sql.specs.Statements.{SelectsAll, rowids}
-use Rattle.desk_sql.specs.Effects.{StaysShown}
-use Rattle.desk_sql.specs.Frames.{OnlyReads}
-use Rattle.desk_sql.specs.Finding.{Holds, AreRising, RiseSo, next_above, is_above_last, rises, rises_after}
+use Rattle.desk_sql.specs.Statements.{IsRefusal, IsUnnumbered, AreRowsUnread, IsMisnumbered, IsSure, SelectsAll, rowids}
+use Rattle.desk_sql.specs.Effects.{StaysShown, OnlyReads, Holds, RiseSo, next_above, is_above_last, rises, rises_after}
 use Rattle.desk_sql.specs.declared.opening.numbers.DeskTable.{DeskTable}
 use Rattle.desk_sql.specs.declared.opening.numbers.DeskTable.TheVariants.{Operator, Plan, OldVolume, OldSpan, Volume, Span}
 use Rattle.desk_sql.proofs.lemmas.Texts.{operator_rowids_text, plan_rowids_text, old_volume_rowids_text, old_span_rowids_text, volume_rowids_text, span_rowids_text}
@@ -42,6 +38,11 @@ use Rattle.desk_sql.proofs.lemmas.Read.{scanned}
 use Rattle.desk_sql.proofs.AskLemmas.{all_selected}
 use Rattle.desk_sql.proofs.lemmas.Number.{IsApart, reversed}
 use Rattle.desk_sql.proofs.StatementLemmas.{both_hold, every, selects_all}
+
+-- the rowids are whole numbers, each above those before
+pub record AreRising (rows : List Row) : Type 0 where
+  pub whole : AllByRecursion (λ r. is_int (rowid r) ≡ true) rows
+  pub rising : IsTable rows
 
 -- ---- the walk along the rows
 

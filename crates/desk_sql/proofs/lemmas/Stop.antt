@@ -22,11 +22,9 @@ use Rattle.sqlite.specs.State.{State, HasCleanDisk, HasCause, IsMisplaced, IsNoS
 use Rattle.sqlite.specs.Store.{Ghosts}
 use Rattle.sqlite.specs.Held.{Held, state}
 use Rattle.desk_sql.specs.Schema.{desk_schema}
-use Rattle.desk_sql.specs.Effects.{IsUnderWay}
+use Rattle.desk_sql.specs.Effects.{IsUnderWay, Holds}
 use Rattle.desk_sql.specs.Rows.{IsDesk}
-use Rattle.desk_sql.specs.Finding.{Holds}
-use Rattle.desk_sql.specs.Refusals.{IsRefusal}
-use Rattle.desk_sql.specs.Statements.{enforced}
+use Rattle.desk_sql.specs.Statements.{IsRefusal, enforced}
 use Rattle.desk_sql.specs.Changing.{MayStop, IsAtLimit, IsWholeWrite, IsWholeIn, IsSureChange}
 use Rattle.desk_sql.proofs.AskLemmas.{IsCause, by_store}
 use Rattle.desk_sql.proofs.lemmas.CommandTexts.{IsCommand}

@@ -14,7 +14,7 @@ use Rattle.sqlite_resolve.specs.declared.error.CompileError.{CompileError}
 use Rattle.sqlite.proofs.Callers.{command_of}
 use Rattle.sqlite.specs.Schema.{Schema}
 use Rattle.desk_sql.specs.Schema.{desk_schema}
-use Rattle.desk_sql.specs.Refusals.{NeverRefuses, IsSimple, IsSureGiven, IsSureMeaning}
+use Rattle.desk_sql.specs.Statements.{NeverRefuses, IsSimple, IsSureGiven, IsSureMeaning}
 use Rattle.desk_sql.proofs.lemmas.QueryTexts.{IsQuery}
 use Rattle.desk_sql.proofs.lemmas.Stop.{names_in, tail_of}
 

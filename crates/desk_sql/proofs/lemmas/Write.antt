@@ -34,8 +34,7 @@ use Rattle.sqlite.proofs.Callers.{IsPlain, command_of, statement_of, runs_as, on
 use Rattle.sqlite_rules.proofs.ActionLemmas.{no_works}
 use Rattle.desk_sql.specs.Schema.{desk_schema, table_of}
 use Rattle.desk_sql.specs.Rows.{IsDesk, Tables, tables_of}
-use Rattle.desk_sql.specs.Finding.{Holds}
-use Rattle.desk_sql.specs.Effects.{Makes}
+use Rattle.desk_sql.specs.Effects.{Holds, Makes}
 use Rattle.desk_sql.specs.Statements.{IsWriting, MayCount, MayWrite, Changes, enforced}
 use Rattle.desk_sql.proofs.lemmas.CommandTexts.{IsCommand}
 

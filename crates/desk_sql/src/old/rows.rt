@@ -1,10 +1,7 @@
 //! Whether there are rows of version 1 of the schema, and of version 2.
 
 ghost use Rattle.std.specs.Prelude.{◌≡◌, ◌&&◌, true};
-ghost use Rattle.desk_sql.specs.Schema.{HasTable, has_table, tree_of};
-ghost use Rattle.desk_sql.specs.Rows.{IsMadeTo, has_new_rows, has_old_rows, has_rows, tables_at};
-ghost use Rattle.desk_sql.specs.QueryEnds.{WasOpen, Answers};
-ghost use Rattle.desk_sql.specs.Effects.{IsReady};
+ghost use Rattle.desk_sql.specs.{Schema.HasTable, Schema.has_table, Schema.tree_of, Rows.IsMadeTo, Rows.has_new_rows, Rows.has_old_rows, Rows.has_rows, Rows.tables_at, Queries.WasOpen, Queries.Answers, Effects.IsReady};
 
 use crate::opening::finding::TablesPresent;
 use crate::opening::numbers::{DeskTable, rowids_text, too_big_as_out_of_memory};

@@ -1,13 +1,8 @@
 //! What tables a database has.
 
 ghost use Rattle.std.specs.Prelude.{◌≡◌, false, IsTrue, IfOk, IfErr, MatchOption};
-ghost use Rattle.sqlite.specs.State.{HasCleanDisk};
-ghost use Rattle.sqlite.specs.Held.{state};
-ghost use Rattle.desk_sql.specs.Schema.{has_table, is_packed};
-ghost use Rattle.desk_sql.specs.Frames.{OnlyReads};
-ghost use Rattle.desk_sql.specs.Refusals.{AreRowsUnread};
-ghost use Rattle.desk_sql.specs.Finding.{Holds, HasOthers};
-ghost use Rattle.desk_sql.specs.Rows.{IsMadeTo};
+ghost use Rattle.sqlite.specs.{State.HasCleanDisk, Held.state};
+ghost use Rattle.desk_sql.specs.{Schema.has_table, Schema.is_packed, Effects.OnlyReads, Effects.Holds, Effects.HasOthers, Statements.AreRowsUnread, Rows.IsMadeTo};
 
 use crate::opening::matching::tables_present;
 use crate::opening::numbers::{DeskTable, test_all_rowids};

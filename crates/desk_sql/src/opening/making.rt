@@ -1,16 +1,9 @@
 //! How the tables and the indexes are made.
 
 ghost use Rattle.std.specs.Prelude.{◌≡◌, ◌≢◌, suc, IfSome, IfNone, IfErr, IsTrue, OnOk, OnErr};
-ghost use Rattle.sqlite.specs.Effect.{IsDatabase};
-ghost use Rattle.sqlite.specs.State.{HasCleanDisk};
-ghost use Rattle.sqlite.specs.Held.{state};
-ghost use Rattle.desk_sql.specs.Making.{left_to_make, Finishes, Completes, MayComplete, HasSmallSpans, IsStep};
-ghost use Rattle.desk_sql.specs.Rows.{IsMadeTo, tables_at};
-ghost use Rattle.desk_sql.specs.Finding.{Holds};
-ghost use Rattle.desk_sql.specs.Effects.{StaysShown, IsReady};
-ghost use Rattle.desk_sql.specs.QueryEnds.{IsRunWithin};
-ghost use Rattle.desk_sql.specs.Frames.{IsOver};
-ghost use Rattle.desk_sql.specs.Refusals.{IsRefusal};
+ghost use Rattle.sqlite.specs.{Effect.IsDatabase, State.HasCleanDisk, Held.state};
+ghost use Rattle.desk_sql.specs.Changing.{left_to_make, Finishes, Completes, MayComplete, HasSmallSpans, IsStep};
+ghost use Rattle.desk_sql.specs.{Rows.IsMadeTo, Rows.tables_at, Effects.Holds, Effects.StaysShown, Effects.IsReady, Effects.IsOver, Queries.IsRunWithin, Statements.IsRefusal};
 
 use crate::laws::committed_and_sound;
 use crate::opening::finding::TablesPresent;

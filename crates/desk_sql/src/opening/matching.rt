@@ -2,9 +2,7 @@
 
 ghost use Rattle.std.specs.Prelude.{◌≡◌, ◌≢◌, ◌↔◌, ◌<◌, ◌-◌, ◌^◌, [], ◌∷◌, IsTrue, MatchOption, map};
 ghost use Rattle.sqlite_value.specs.Keys.{plain};
-ghost use Rattle.desk_sql.specs.Schema.{column_of, leaf_index_of, schema_of};
-ghost use Rattle.desk_sql.specs.Objects.{no_stamps, without_extras, plain_table, key_index, column_from, name_from};
-ghost use Rattle.desk_sql.specs.Objects.{reference_from, table_from, tables_from, index_from, schema_from};
+ghost use Rattle.desk_sql.specs.Schema.{column_of, leaf_index_of, schema_of, no_stamps, without_extras, plain_table, key_index, column_from, name_from, reference_from, table_from, tables_from, index_from, schema_from};
 
 use crate::opening::finding::TablesPresent;
 use crate::opening::objects::{ColumnForm, DeskObject, ReferenceForm, TableForm, objects};

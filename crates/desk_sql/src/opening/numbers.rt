@@ -1,17 +1,8 @@
 //! Whether the rowids of the tables are integers, none of them twice.
 
 ghost use Rattle.std.specs.Prelude.{◌≡◌, ◌&&◌, List, [], ◌∷◌, true, false, IsTrue, OnOk, OnErr, IfErr};
-ghost use Rattle.sqlite.specs.Order.{Row as Values};
-ghost use Rattle.sqlite.specs.Tree.{rowid};
-ghost use Rattle.sqlite.specs.State.{HasCleanDisk};
-ghost use Rattle.sqlite.specs.Held.{state};
-ghost use Rattle.desk_sql.specs.Schema.{HasTable, schema_of, has_table, is_old, tree_of};
-ghost use Rattle.desk_sql.specs.Rows.{AreNumbered, IsMadeTo};
-ghost use Rattle.desk_sql.specs.Refusals.{AreRowsUnread, IsUnnumbered, too_big_as_out_of_memory};
-ghost use Rattle.desk_sql.specs.Statements.{SelectsAll, rowids};
-ghost use Rattle.desk_sql.specs.Finding.{Holds, next_above, rises};
-ghost use Rattle.desk_sql.specs.Frames.{OnlyReads};
-ghost use Rattle.desk_sql.specs.Effects.{IsReady};
+ghost use Rattle.sqlite.specs.{Order.Row as Values, Tree.rowid, State.HasCleanDisk, Held.state};
+ghost use Rattle.desk_sql.specs.{Schema.HasTable, Schema.schema_of, Schema.has_table, Schema.is_old, Schema.tree_of, Rows.AreNumbered, Rows.IsMadeTo, Statements.AreRowsUnread, Statements.IsUnnumbered, Statements.too_big_as_out_of_memory, Statements.SelectsAll, Statements.rowids, Effects.Holds, Effects.next_above, Effects.rises, Effects.OnlyReads, Effects.IsReady};
 
 use crate::opening::finding::TablesPresent;
 use crate::reading::taking::{RowVisitor, visit_rows};
@@ -59,7 +50,7 @@ impl Rowids {
 // It takes each row and refuses none. It has no part that rows don't change.
 impl RowVisitor for Rowids {
     ghost use Rattle.std.specs.Prelude.{⊤};
-    ghost use Rattle.desk_sql.specs.Finding.{RiseSo};
+    ghost use Rattle.desk_sql.specs.Effects.{RiseSo};
 
     ghost has_taken = { λ r rows. RiseSo r.rise r.last rows };
 

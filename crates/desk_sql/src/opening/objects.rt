@@ -1,8 +1,7 @@
 //! The tables and indexes of the schema, in canonical and in packed order.
 
 ghost use Rattle.std.specs.Prelude.{◌≡◌};
-ghost use Rattle.desk_sql.specs.Objects.{schema_from};
-ghost use Rattle.desk_sql.specs.Schema.{schema_of};
+ghost use Rattle.desk_sql.specs.Schema.{schema_from, schema_of};
 
 use crate::opening::finding::TablesPresent;
 use sqlite_schema::schema::{Action, Kind};

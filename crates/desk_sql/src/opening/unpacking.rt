@@ -1,15 +1,9 @@
 //! How the tables of a packed file are rebuilt in canonical order.
 
 ghost use Rattle.std.specs.Prelude.{◌≡◌, IsTrue};
-ghost use Rattle.sqlite.specs.Effect.{IsDatabase};
-ghost use Rattle.sqlite.specs.Held.{state};
-ghost use Rattle.desk_sql.specs.Schema.{packed_schema, old_table_schema};
-ghost use Rattle.desk_sql.specs.Rows.{IsMadeTo, tables_at};
-ghost use Rattle.desk_sql.specs.Finding.{Holds};
-ghost use Rattle.desk_sql.specs.QueryEnds.{IsRunWithin};
-ghost use Rattle.desk_sql.specs.Effects.{Makes};
-ghost use Rattle.desk_sql.specs.Making.{HasSmallSpans};
-ghost use Rattle.desk_sql.specs.Unpacking.{loose_schema, spanless_schema, Drops, Unpacks, RemakesTables};
+ghost use Rattle.sqlite.specs.{Effect.IsDatabase, Held.state};
+ghost use Rattle.desk_sql.specs.{Schema.packed_schema, Schema.old_table_schema, Rows.IsMadeTo, Rows.tables_at, Effects.Holds, Effects.Makes, Queries.IsRunWithin};
+ghost use Rattle.desk_sql.specs.Changing.{HasSmallSpans, loose_schema, spanless_schema, Drops, Unpacks, RemakesTables};
 
 use crate::opening::finding::TablesPresent;
 use crate::opening::making::make_rest;

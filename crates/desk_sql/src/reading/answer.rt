@@ -1,9 +1,6 @@
 //! All rows of a query.
 
-ghost use Rattle.desk_sql.specs.Rows.{tables_of, Lists, IsDesk};
-ghost use Rattle.desk_sql.specs.Effects.{IsReady};
-ghost use Rattle.desk_sql.specs.QueryEnds.{WasOpen, Answers};
-ghost use Rattle.desk_sql.specs.Queries.{order_of, rows_of};
+ghost use Rattle.desk_sql.specs.{Rows.tables_of, Rows.Lists, Rows.IsDesk, Effects.IsReady, Queries.WasOpen, Queries.Answers, Queries.order_of, Queries.rows_of};
 
 use crate::laws::committed_and_sound;
 use crate::reading::query::Query;

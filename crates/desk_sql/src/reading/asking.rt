@@ -1,11 +1,8 @@
 //! All rows of a query without parameters.
 
 ghost use Rattle.std.specs.Prelude.{[], OnOk};
-ghost use Rattle.sqlite.specs.State.{Shown};
-ghost use Rattle.sqlite.specs.Held.{state};
-ghost use Rattle.desk_sql.specs.Effects.{StaysOpen, IsReady};
-ghost use Rattle.desk_sql.specs.Refusals.{IsSure};
-ghost use Rattle.desk_sql.specs.QueryEnds.{WasOpen, Answers};
+ghost use Rattle.sqlite.specs.{State.Shown, Held.state};
+ghost use Rattle.desk_sql.specs.{Effects.StaysOpen, Effects.IsReady, Statements.IsSure, Queries.WasOpen, Queries.Answers};
 
 use crate::laws::committed_and_sound;
 use sqlite::{Alter, Connection, Error, Row};

@@ -1,10 +1,7 @@
 //! The spans of other operators.
 
 ghost use Rattle.std.specs.Prelude.{[], filter, map, IsPermutation};
-ghost use Rattle.desk_sql.specs.Rows.{columns_from_first, tables_of, IsDesk};
-ghost use Rattle.desk_sql.specs.Effects.{IsReady};
-ghost use Rattle.desk_sql.specs.QueryEnds.{WasOpen, HandsOut};
-ghost use Rattle.desk_sql.specs.Others.{is_others_from};
+ghost use Rattle.desk_sql.specs.{Rows.columns_from_first, Rows.tables_of, Rows.IsDesk, Rows.is_others_from, Effects.IsReady, Queries.WasOpen, Queries.HandsOut};
 
 use crate::reading::query::Query;
 use crate::reading::rivals::SpanFilter;

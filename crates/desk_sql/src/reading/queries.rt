@@ -2,8 +2,7 @@
 
 ghost use Rattle.std.specs.Prelude.{[], ◌∷◌, filter};
 ghost use Rattle.desk_sql.specs.Rows.{is_row_by, is_of, tables_of, with_volumes, Lists, IsDesk};
-ghost use Rattle.desk_sql.specs.Effects.{IsReady};
-ghost use Rattle.desk_sql.specs.QueryEnds.{WasOpen, Answers, HandsOut};
+ghost use Rattle.desk_sql.specs.{Effects.IsReady, Queries.WasOpen, Queries.Answers, Queries.HandsOut};
 
 use crate::reading::answer::query_rows;
 use crate::reading::query::Query;

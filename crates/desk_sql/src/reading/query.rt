@@ -4,8 +4,7 @@ ghost use Rattle.std.specs.Prelude.{◌≡◌, [], ◌∷◌, ℕ, ℤ, List, fi
 ghost use Rattle.sqlite.specs.declared.types.Value.TheVariants.{Text};
 ghost use Rattle.desk_sql.specs.declared.reading.rivals.SpanFilter.{SpanFilter as Reach};
 ghost use Rattle.desk_sql.specs.Queries.{params_of, order_of, rows_of, plan_params, rival_params, others_params};
-ghost use Rattle.desk_sql.specs.Rows.{columns_from_first, is_of, is_row_by, is_rival_from, with_volumes};
-ghost use Rattle.desk_sql.specs.Others.{is_others_from, is_plan_span};
+ghost use Rattle.desk_sql.specs.Rows.{columns_from_first, is_of, is_row_by, is_rival_from, with_volumes, is_others_from, is_plan_span};
 ghost use Rattle.desk_sql.specs.Statements.{Selects};
 
 use crate::parameters::Parameters;

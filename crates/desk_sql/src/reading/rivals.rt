@@ -1,9 +1,7 @@
 //! The spans of other plans that may block a plan.
 
 ghost use Rattle.std.specs.Prelude.{[], filter, map, IsPermutation};
-ghost use Rattle.desk_sql.specs.Rows.{is_rival_from, columns_from_first, tables_of, IsDesk};
-ghost use Rattle.desk_sql.specs.Effects.{IsReady};
-ghost use Rattle.desk_sql.specs.QueryEnds.{WasOpen, HandsOut};
+ghost use Rattle.desk_sql.specs.{Rows.is_rival_from, Rows.columns_from_first, Rows.tables_of, Rows.IsDesk, Effects.IsReady, Queries.WasOpen, Queries.HandsOut};
 
 use crate::reading::query::Query;
 use crate::reading::taking::{RowVisitor, for_each_row};

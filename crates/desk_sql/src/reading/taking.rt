@@ -1,17 +1,9 @@
 //! The rows of a query, passed on one at a time.
 
 ghost use Rattle.std.specs.Prelude.{◌≡◌, List, [], OnOk, IsTrue};
-ghost use Rattle.sqlite.specs.Order.{Row as Values};
-ghost use Rattle.sqlite.specs.Values.{bound};
-ghost use Rattle.sqlite.specs.State.{HasCleanDisk, IsUnchanged, Shown};
-ghost use Rattle.sqlite.specs.Held.{state};
-ghost use Rattle.desk_sql.specs.Rows.{tables_of, Lists, IsDesk};
-ghost use Rattle.desk_sql.specs.Effects.{IsReady, IsOpenIfClean};
-ghost use Rattle.desk_sql.specs.QueryEnds.{WasOpen, HandsOut};
-ghost use Rattle.desk_sql.specs.Queries.{order_of, rows_of};
-ghost use Rattle.desk_sql.specs.Takers.{KeepsOn};
-ghost use Rattle.desk_sql.specs.Refusals.{IsSureGiven};
-ghost use Rattle.desk_sql.specs.Taking.{FailsNext, FailsToHandAll, HandsOver, HandsAll, IsHanded, TakesOn};
+ghost use Rattle.sqlite.specs.{Order.Row as Values, Values.bound, State.HasCleanDisk, State.IsUnchanged, State.Shown, Held.state};
+ghost use Rattle.desk_sql.specs.{Rows.tables_of, Rows.Lists, Rows.IsDesk, Effects.IsReady, Effects.IsOpenIfClean, Statements.IsSureGiven};
+ghost use Rattle.desk_sql.specs.Queries.{WasOpen, HandsOut, order_of, rows_of, KeepsOn, FailsNext, FailsToHandAll, HandsOver, HandsAll, IsHanded, TakesOn};
 
 use crate::laws::committed_and_sound;
 use crate::reading::query::Query;
@@ -20,11 +12,10 @@ use sqlite_value::value::ValueRef;
 
 /// A visitor takes the rows of a query, one at a time.
 pub trait RowVisitor {
-    ghost use Rattle.std.specs.Prelude.{List, [], ◌∷◌, ◌++◌};
-    ghost use Rattle.std.specs.Prelude.{IfErr};
+    ghost use Rattle.std.specs.Prelude.{List, [], ◌∷◌, ◌++◌, IfErr};
     ghost use Rattle.sqlite.specs.Order.{Row};
     ghost use Rattle.sqlite.specs.declared.error.Error.{Error};
-    ghost use Rattle.desk_sql.specs.Takers.{KeepsOn};
+    ghost use Rattle.desk_sql.specs.Queries.{KeepsOn};
 
     /// Whether the visitor may have taken just these rows, in this order.
     ghost has_taken: { Self → List Row → Type 0 };

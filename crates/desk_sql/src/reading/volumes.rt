@@ -2,13 +2,7 @@
 
 ghost use Rattle.std.specs.Prelude.{◌≡◌, Bool, true, List, [], ◌∷◌, map, OnOk};
 ghost use Rattle.sqlite.specs.Order.{Row as Values};
-ghost use Rattle.desk_sql.specs.Schema.{has_table, is_packed, tree_of};
-ghost use Rattle.desk_sql.specs.Rows.{IsMadeTo, columns, tables_at};
-ghost use Rattle.desk_sql.specs.Effects.{StaysOpen, IsReady};
-ghost use Rattle.desk_sql.specs.Statements.{SelectsAll};
-ghost use Rattle.desk_sql.specs.Takers.{KeepsOn};
-ghost use Rattle.desk_sql.specs.QueryEnds.{WasOpen, HandsOut};
-ghost use Rattle.desk_sql.specs.Volumes.{ListVolumes, volume_table_in};
+ghost use Rattle.desk_sql.specs.{Schema.has_table, Schema.is_packed, Schema.tree_of, Rows.IsMadeTo, Rows.columns, Rows.tables_at, Rows.ListVolumes, Rows.volume_table_in, Effects.StaysOpen, Effects.IsReady, Statements.SelectsAll, Queries.KeepsOn, Queries.WasOpen, Queries.HandsOut};
 
 use crate::opening::finding::TablesPresent;
 use crate::opening::numbers::DeskTable;

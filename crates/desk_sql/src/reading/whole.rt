@@ -2,13 +2,8 @@
 
 ghost use Rattle.std.specs.Prelude.{◌≡◌, true, OnOk, List, []};
 ghost use Rattle.sqlite.specs.Order.{Row as Values};
-ghost use Rattle.desk_sql.specs.Schema.{has_table, is_packed};
-ghost use Rattle.desk_sql.specs.Rows.{IsMadeTo, tables_at, Lists};
-ghost use Rattle.desk_sql.specs.Effects.{StaysOpen, IsReady};
-ghost use Rattle.desk_sql.specs.WholeTables.{ShowsWhole};
-ghost use Rattle.desk_sql.specs.Queries.{table_read, table_in, key_cells, rows_read};
-ghost use Rattle.desk_sql.specs.Takers.{KeepsOn};
-ghost use Rattle.desk_sql.specs.QueryEnds.{WasOpen, Answers, HandsOut};
+ghost use Rattle.desk_sql.specs.{Schema.has_table, Schema.is_packed, Rows.IsMadeTo, Rows.tables_at, Rows.Lists, Effects.StaysOpen, Effects.IsReady};
+ghost use Rattle.desk_sql.specs.Queries.{ShowsWhole, table_read, table_in, key_cells, rows_read, KeepsOn, WasOpen, Answers, HandsOut};
 
 use crate::opening::finding::TablesPresent;
 use crate::opening::numbers::DeskTable;

@@ -9,9 +9,8 @@ use Rattle.std.proofs.lemmas.Cmp.{tied_itself}
 use Rattle.std.proofs.lemmas.List.{map-append}
 use Rattle.std.proofs.lemmas.List.Elements.{filter-append}
 use Rattle.desk_rules.specs.declared.plan.PlanRow.{PlanRow}
-use Rattle.desk_store.specs.World.{Filed, text_cmp, filed_cmp, rows_by, is_by, has_id}
+use Rattle.desk_store.specs.World.{Filed, text_cmp, filed_cmp, rows_by, is_by, has_id, is_own}
 use Rattle.desk_store.specs.Changes.{filed_by, is_before, is_after, replaced, closed, close_row, is_named, clear_rows}
-use Rattle.desk_store.specs.OwnRows.{is_own}
 use Rattle.desk_store.proofs.lemmas.Order.{parts}
 
 -- what is before or after the operator's is not the operator's

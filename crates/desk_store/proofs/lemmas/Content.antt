@@ -4,14 +4,12 @@ use Rattle.std.proofs.Common.{◌≡◌, ℕ, Bool, true, false, not, cond, List
 use Rattle.std.specs.List.{AllByRecursion, filter}
 use Rattle.std.specs.declared.cmp.Ordering.{Ordering}
 use Rattle.std.specs.Ordering.{match_ordering}
-use Rattle.desk_rules.specs.Name.{is_operator_name}
+use Rattle.desk_rules.specs.Limits.{is_operator_name}
 use Rattle.desk_rules.specs.declared.plan.PlanRow.{PlanRow}
 use Rattle.desk_store.specs.declared.change.Change.{Change}
 use Rattle.desk_store.specs.declared.change.Change.TheVariants.{Enrol, Put, Close}
-use Rattle.desk_store.specs.World.{Filed, Listed, World, IsWorld, text_cmp, rows_by, plans_of, is_by, has_id}
-use Rattle.desk_store.specs.Content.{IsPlan, IsContent}
-use Rattle.desk_store.specs.Changes.{is_before, is_after, is_named, filed_by, put_row, list_operator, with_plans, with_operator, closed, close_row, clear_rows}
-use Rattle.desk_store.specs.StoreChange.{changed_by, IsFitting}
+use Rattle.desk_store.specs.World.{Filed, Listed, World, IsWorld, text_cmp, rows_by, plans_of, is_by, has_id, IsPlan, IsContent}
+use Rattle.desk_store.specs.Changes.{is_before, is_after, is_named, filed_by, put_row, list_operator, with_plans, with_operator, closed, close_row, clear_rows, changed_by, IsFitting}
 use Rattle.desk_store.proofs.lemmas.Order.{all_filter, all_map, all_append}
 use Rattle.desk_store.proofs.lemmas.World.{kept}
 

@@ -4,9 +4,8 @@ use Rattle.std.specs.Prelude.{max, IsPermutation}
 use Rattle.std.proofs.lemmas.List.Elements.{All-cons, All-head, All-nil, All-tail, All-weaker}
 use Rattle.std.proofs.lemmas.List.Sorted.{All-permutation, IsPermutation-sym}
 use Rattle.volume4d.specs.declared.slab.Held.{Held}
-use Rattle.volume4d.specs.Point.{Point}
-use Rattle.volume4d.specs.Slab.{slab_has, top_held}
-use Rattle.volume4d.specs.Level.{greater, level_where, top_by}
+use Rattle.volume4d.specs.Volume.{Point}
+use Rattle.volume4d.specs.Slab.{slab_has, top_held, greater, level_where, top_by}
 use Rattle.volume4d.proofs.lemmas.Level.{greater_assoc, greater_comm, top_by-cons}
 
 same_max : (n : ℕ) → max n n ≡ n

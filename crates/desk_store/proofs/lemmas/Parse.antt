@@ -7,7 +7,7 @@ use Rattle.std.proofs.lemmas.Bool.Decides.{nat_tests}
 use Rattle.std.proofs.lemmas.List.Elements.{All-from_recursion, All-get_or, All-from_get_or}
 use Rattle.uuid.specs.Text.{by_index, is_hex_digit, value_of, byte_of_digits, parsed, parsed_simple, parsed_hyphenated, parsed_braced, parsed_urn, digits_of, has_hyphens, has_urn_prefix}
 use Rattle.uuid.proofs.TextLemmas.{by_index_length, by_index_at}
-use Rattle.desk_store.specs.Content.{IsId}
+use Rattle.desk_store.specs.World.{IsId}
 
 all_from_test : (p : ℕ → Bool) (xs : List ℕ) → list_all p xs ≡ true → AllByRecursion (λ x. p x ≡ true) xs
 all_from_test p [] h = tt

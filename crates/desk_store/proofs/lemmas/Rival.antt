@@ -4,14 +4,13 @@ use Rattle.std.specs.Prelude.{nat_le, max}
 use Rattle.std.proofs.lemmas.Bool.Decides.{nat_tests}
 use Rattle.std.specs.List.{filter}
 use Rattle.desk_rules.specs.declared.plan.PlanRow.{PlanRow}
-use Rattle.volume4d.specs.Point.{Point}
-use Rattle.volume4d.specs.Level.{greater, level_where}
+use Rattle.volume4d.specs.Volume.{Point}
+use Rattle.volume4d.specs.Slab.{greater, level_where}
 use Rattle.volume4d.proofs.lemmas.Level.{greater_assoc, greater_comm, greater_none}
 use Rattle.desk_rules.proofs.lemmas.Plan.{top_priority-cons, top_priority-nil}
 use Rattle.desk_rules.specs.Conflict.{at_least}
-use Rattle.desk_rules.specs.Plan.{row_holds, top_priority}
-use Rattle.desk_store.specs.World.{Filed, World, rows_by, is_by, has_id, others_of, held, held_at}
-use Rattle.desk_store.specs.OwnRows.{is_own, rival_level, rivals_top, other_level, others_top}
+use Rattle.desk_rules.specs.Outcome.{row_holds, top_priority}
+use Rattle.desk_store.specs.World.{Filed, World, rows_by, is_by, has_id, others_of, held, held_at, is_own, rival_level, rivals_top, other_level, others_top}
 
 -- ---- levels
 

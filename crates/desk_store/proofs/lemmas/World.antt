@@ -17,8 +17,7 @@ use Rattle.desk_rules.specs.Limits.{max_plans, max_priority}
 use Rattle.desk_store.specs.declared.change.Change.{Change}
 use Rattle.desk_store.specs.declared.change.Change.TheVariants.{Enrol, Put, Close, Clear}
 use Rattle.desk_store.specs.World.{Filed, Listed, World, text_cmp, listed_cmp, row_cmp, rows_by, plans_of, is_by, has_id, stored_of, ceiling_of, IsListed, IsWorld}
-use Rattle.desk_store.specs.Changes.{put_row, closed, close_row, is_named, clear_rows, list_operator, replaced, filed_by, is_before, is_after, with_plans, with_operator, HasRoom}
-use Rattle.desk_store.specs.StoreChange.{changed_by, IsFitting}
+use Rattle.desk_store.specs.Changes.{put_row, closed, close_row, is_named, clear_rows, list_operator, replaced, filed_by, is_before, is_after, with_plans, with_operator, HasRoom, changed_by, IsFitting}
 use Rattle.desk_store.proofs.lemmas.Order.{is_equal, all_weaker, all_filter, all_append, all_map, all_any, sorted_map, parts, replaced_sorted, name_of, rows_sorted, put_sorted}
 
 rows_by-append : (o : List ℕ) (ps qs : List Filed) → rows_by o (ps ++ qs) ≡ rows_by o ps ++ rows_by o qs

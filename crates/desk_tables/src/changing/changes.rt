@@ -3,17 +3,13 @@
 ghost use Rattle.std.specs.Prelude.{◌≡◌, ◌<◌, ◌^◌, pos, IfOk, IfErr};
 ghost use Rattle.sqlite_value.specs.declared.value.Value.TheVariants.{Int};
 ghost use Rattle.sqlite_value.specs.Order.{column};
-ghost use Rattle.sqlite.specs.State.{HasCleanDisk};
-ghost use Rattle.sqlite.specs.Held.{state};
-ghost use Rattle.desk_store.specs.Changes.{filed_by};
-ghost use Rattle.desk_store.specs.StoreChange.{IsFitting, changed_by};
+ghost use Rattle.sqlite.specs.{State.HasCleanDisk, Held.state};
+ghost use Rattle.desk_store.specs.Changes.{filed_by, IsFitting, changed_by};
 ghost use Rattle.desk_store.specs.declared.change.Change.TheVariants as change;
 ghost use Rattle.desk_sql.specs.Changing.{AreLow, HasRowids};
 ghost use Rattle.desk_rules.specs.declared.plan.PlanRow.{PlanRow as Plan};
-ghost use Rattle.row_codec.specs.RowsRead.{IsHead};
-ghost use Rattle.desk_tables.specs.Causes.{BlamesChange, BlamesStore, HasRoomForPlan};
-ghost use Rattle.row_codec.specs.SpanBounds.{IsKnownPlan, BringsKnown, Keeps};
-ghost use Rattle.desk_tables.specs.ChangesMade.{HasFollowed, IsMade, IsNext};
+ghost use Rattle.row_codec.specs.{RowsRead.IsHead, SpanBounds.IsKnownPlan, SpanBounds.BringsKnown, SpanBounds.Keeps};
+ghost use Rattle.desk_tables.specs.Store.{BlamesChange, BlamesStore, HasRoomForPlan, HasFollowed, IsMade, IsNext};
 
 use crate::tables::DeskTables;
 use desk_changes::{PlanRecord, clear_plans, close_plan, put_operator, put_plan};

@@ -1,22 +1,13 @@
 //! Writes a database state into a new database.
 
 ghost use Rattle.std.specs.Prelude.{◌≡◌, List, ◌∷◌, false, IfOk, IfErr, OnOk, None};
-ghost use Rattle.sqlite.specs.State.{HasCleanDisk};
-ghost use Rattle.sqlite.specs.Held.{state};
-ghost use Rattle.desk_sql.specs.Effects.{IsReady, IsOpenIfClean, Makes, Commits, IsUnderWay};
-ghost use Rattle.desk_sql.specs.Finding.{Holds};
-ghost use Rattle.desk_sql.specs.Frames.{IsOver, OnlyReads, Remembers};
-ghost use Rattle.desk_sql.specs.Rows.{IsDesk, AddsOperator, AddsPlan, IsMadeTo};
-ghost use Rattle.desk_sql.specs.Schema.{blank_schema};
-ghost use Rattle.desk_store.specs.Content.{IsContent};
-ghost use Rattle.desk_store.specs.World.{Filed, Listed};
-ghost use Rattle.table_load.specs.Files.{IsUnread};
-ghost use Rattle.table_load.specs.Opening.{BlamesReading};
-ghost use Rattle.table_load.specs.OpeningSteps.{IsAdopted, IsAtRest, IsMadeAnew};
-ghost use Rattle.row_codec.specs.Known.{Knows};
-ghost use Rattle.row_codec.specs.Tables.{row_of_operator, row_of_plan};
+ghost use Rattle.sqlite.specs.{State.HasCleanDisk, Held.state};
+ghost use Rattle.desk_sql.specs.Effects.{IsReady, IsOpenIfClean, Makes, Commits, IsUnderWay, Holds, IsOver, OnlyReads, Remembers};
+ghost use Rattle.desk_sql.specs.{Rows.IsDesk, Rows.AddsOperator, Rows.AddsPlan, Rows.IsMadeTo, Schema.blank_schema};
+ghost use Rattle.desk_store.specs.World.{IsContent, Filed, Listed};
+ghost use Rattle.table_load.specs.{Files.IsUnread, Opening.BlamesReading, Opening.AreNewHeads, Opening.AreNewOperators, Opening.CanBeFilled, Opening.HaveFewRows, OpeningSteps.IsAdopted, OpeningSteps.IsAtRest, OpeningSteps.IsMadeAnew};
+ghost use Rattle.row_codec.specs.{SpanBounds.Knows, Tables.row_of_operator, Tables.row_of_plan};
 ghost use Rattle.desk_tables.specs.Copying.{AddsHeadRows, AddsOperatorRows, AddsWorldRows, BlamesNew, IsUnmade};
-ghost use Rattle.table_load.specs.Writable.{AreNewHeads, AreNewOperators, CanBeFilled, HaveFewRows};
 
 use crate::opening::open::AdoptFault;
 use crate::store::SqliteStore;

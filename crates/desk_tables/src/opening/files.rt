@@ -1,22 +1,13 @@
 //! Opens stores of plans over files.
 
 ghost use Rattle.std.specs.Prelude.{◌≡◌, IfErr, IfOk, MatchResult};
-ghost use Rattle.sqlite_wal.specs.Files.{image_at};
-ghost use Rattle.sqlite_wal.specs.Recovery.{Image};
-ghost use Rattle.sqlite.specs.Held.{IsNew};
-ghost use Rattle.sqlite.specs.Files.{over_files};
-ghost use Rattle.table_load.specs.CutShort.{IsCompletedAs, IsCutShort, IsMovedOn};
-ghost use Rattle.table_load.specs.Files.{AreNotMoved, AreRefused, Finds, OpensIn, OpensMoved};
-ghost use Rattle.table_load.specs.Files.{no_files};
-ghost use Rattle.table_load.specs.LyingDisk.{IsGuarded};
-ghost use Rattle.table_load.specs.Leaving.{IsSettledAt};
-ghost use Rattle.desk_store.specs.World.{World};
-ghost use Rattle.desk_store.specs.Content.{IsContent};
-ghost use Rattle.table_load.specs.HeldContent.{AreStatsOf};
-ghost use Rattle.desk_tables.specs.Copying.{AreNotCopied, AreNotMade, AreNotRead, IsMadeIn};
-ghost use Rattle.desk_tables.specs.Copying.{IsUnmadeOf, LooksIn};
-ghost use Rattle.row_codec.specs.Known.{Knows};
-ghost use Rattle.table_load.specs.Writable.{HaveFewRows};
+ghost use Rattle.sqlite_wal.specs.{Files.image_at, Recovery.Image};
+ghost use Rattle.sqlite.specs.{Held.IsNew, Files.over_files};
+ghost use Rattle.table_load.specs.{OpeningSteps.IsCompletedAs, OpeningSteps.IsCutShort, OpeningSteps.IsMovedOn, Moving.AreStatsOf, Opening.HaveFewRows};
+ghost use Rattle.table_load.specs.Files.{AreNotMoved, AreRefused, Finds, OpensIn, OpensMoved, no_files, IsGuarded, IsSettledAt};
+ghost use Rattle.desk_store.specs.World.{World, IsContent};
+ghost use Rattle.desk_tables.specs.Copying.{AreNotCopied, AreNotMade, AreNotRead, IsMadeIn, IsUnmadeOf, LooksIn};
+ghost use Rattle.row_codec.specs.SpanBounds.{Knows};
 
 use crate::opening::copying::store_of;
 use crate::store::SqliteStore;

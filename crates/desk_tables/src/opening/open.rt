@@ -2,10 +2,7 @@
 
 ghost use Rattle.std.specs.Prelude.{◌≡◌, ◌-◌, ◌++◌, [], false, length, replicate, IfOk, IfErr, MatchResult, None};
 ghost use Rattle.desk_sql.specs.Effects.{StaysShown};
-ghost use Rattle.table_load.specs.CutShort.{IsCompletedAs, IsMovedOn, LeavesShownOr};
-ghost use Rattle.table_load.specs.Moving.{BeginsMoved, KeepsRows, ShowsNoContent};
-ghost use Rattle.table_load.specs.Opening.{BeginsWith, ShowsNoDesk, ShowsOldRows};
-ghost use Rattle.table_load.specs.OpeningSteps.{IsAdopted, IsNotAdopted};
+ghost use Rattle.table_load.specs.{OpeningSteps.IsCompletedAs, OpeningSteps.IsMovedOn, OpeningSteps.LeavesShownOr, OpeningSteps.IsAdopted, OpeningSteps.IsNotAdopted, Moving.BeginsMoved, Moving.KeepsRows, Moving.ShowsNoContent, Opening.BeginsWith, Opening.ShowsNoDesk, Opening.ShowsOldRows};
 
 use crate::store::SqliteStore;
 use db_file::Ram;

@@ -3,13 +3,11 @@
 
 ghost use Rattle.std.specs.Prelude.{◌<◌, IfSome, IsTrue, OnOk, length};
 ghost use Rattle.std.specs.List.{AllByRecursion};
-ghost use Rattle.sqlite.specs.State.{HasCleanDisk};
-ghost use Rattle.sqlite.specs.Held.{state};
-ghost use Rattle.desk_store.specs.Content.{IsId};
-ghost use Rattle.desk_sql.specs.QueryEnds.{WasOpen};
-ghost use Rattle.row_codec.specs.RivalRows.{AreWanted, HaveTaken, HaveTakenAll, is_asked};
-ghost use Rattle.row_codec.specs.SpanBounds.{Bounds, IsWithinExtent};
-ghost use Rattle.desk_tables.specs.ReadsMade.{ReadsSpans, spans_shown};
+ghost use Rattle.sqlite.specs.{State.HasCleanDisk, Held.state};
+ghost use Rattle.desk_store.specs.World.{IsId};
+ghost use Rattle.desk_sql.specs.Queries.{WasOpen};
+ghost use Rattle.row_codec.specs.{RowsRead.AreWanted, RowsRead.HaveTaken, RowsRead.HaveTakenAll, RowsRead.is_asked, SpanBounds.Bounds, SpanBounds.IsWithinExtent};
+ghost use Rattle.desk_tables.specs.Store.{ReadsSpans, spans_shown};
 
 use crate::reading::readers::slabs_if_read;
 use crate::tables::DeskTables;

@@ -1,13 +1,10 @@
 //! The slabs of other operators' plans.
 
 ghost use Rattle.std.specs.Prelude.{◌≡◌, None, cond};
-ghost use Rattle.volume4d.specs.Point.{Point};
-ghost use Rattle.volume4d.specs.Slab.{slabs_have, top_held};
-ghost use Rattle.desk_store.specs.World.{held};
-ghost use Rattle.desk_store.specs.Rivals.{AreHeldByOthers};
-ghost use Rattle.desk_tables.specs.ReadsMade.{ReadsSpans};
-ghost use Rattle.row_codec.specs.Known.{Knows};
-ghost use Rattle.row_codec.specs.SpanBounds.{Bounds};
+ghost use Rattle.volume4d.specs.{Volume.Point, Slab.slabs_have, Slab.top_held};
+ghost use Rattle.desk_store.specs.World.{held, AreHeldByOthers};
+ghost use Rattle.desk_tables.specs.Store.{ReadsSpans};
+ghost use Rattle.row_codec.specs.SpanBounds.{Knows, Bounds};
 
 use crate::reading::plans::{MAX_ROWS, MAX_ROWS_AT_ONE};
 use crate::tables::DeskTables;

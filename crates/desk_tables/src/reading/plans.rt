@@ -1,15 +1,13 @@
 //! The slabs of a few plans, whose spans are looked up by their keys.
 
 ghost use Rattle.std.specs.Prelude.{◌≡◌, ◌+◌, ◌-◌, ◌^◌, min, nat_le, true, if◌then◌else◌};
-ghost use Rattle.volume4d.specs.Point.{Point};
-ghost use Rattle.volume4d.specs.Slab.{slabs_have, top_held};
+ghost use Rattle.volume4d.specs.{Volume.Point, Slab.slabs_have, Slab.top_held};
 ghost use Rattle.desk_rules.specs.Conflict.{at_least};
-ghost use Rattle.desk_store.specs.Content.{IsId};
-ghost use Rattle.desk_store.specs.Rivals.{HaveLevel};
-ghost use Rattle.live_index.specs.Near.{listed_top};
-ghost use Rattle.desk_tables.specs.ReadsMade.{ReadsSpans, spans_shown};
-ghost use Rattle.row_codec.specs.RivalRows.{HaveTaken, is_asked_of_plan, query_leaf_count};
-ghost use Rattle.desk_sql.specs.QueryEnds.{WasOpen};
+ghost use Rattle.desk_store.specs.World.{IsId, HaveLevel};
+ghost use Rattle.live_index.specs.Live.{listed_top};
+ghost use Rattle.desk_tables.specs.Store.{ReadsSpans, spans_shown};
+ghost use Rattle.row_codec.specs.RowsRead.{HaveTaken, is_asked_of_plan, query_leaf_count};
+ghost use Rattle.desk_sql.specs.Queries.{WasOpen};
 
 use crate::reading::readers::slabs_if_read;
 use crate::tables::DeskTables;

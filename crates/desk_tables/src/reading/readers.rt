@@ -1,18 +1,12 @@
 //! What a store reads from its tables.
 
 ghost use Rattle.std.specs.Prelude.{◌≡◌, ◌≢◌, ◌<◌, ◌^◌, List, IfErr, IfOk, IsOk, OnOk, map};
-ghost use Rattle.std.specs.List.{AllByRecursion, AllZip};
-ghost use Rattle.std.specs.Result.{IsErrAnd};
+ghost use Rattle.std.specs.{List.AllByRecursion, List.AllZip, Result.IsErrAnd};
 ghost use Rattle.desk_rules.specs.declared.plan.PlanRow.{PlanRow as Plan};
-ghost use Rattle.desk_store.specs.World.{Filed, plans_of, stored_of};
-ghost use Rattle.row_codec.specs.Tables.{plan_rows, volume_rows};
-ghost use Rattle.desk_store.specs.Content.{IsValidVolume, IsContent, IsId, IsPlan};
-ghost use Rattle.row_codec.specs.RowsRead.{IsHead, IsVolumeAt, listing_rows};
-ghost use Rattle.row_codec.specs.Gathering.{HasCollected, HasNoArea};
-ghost use Rattle.desk_tables.specs.Lookups.{own_of};
-ghost use Rattle.row_codec.specs.Known.{Knows};
-ghost use Rattle.row_codec.specs.RivalRows.{AreWantedNear};
-ghost use Rattle.desk_tables.specs.ReadsMade.{ReadsPlans, ReadsSpans};
+ghost use Rattle.desk_store.specs.World.{Filed, plans_of, stored_of, IsValidVolume, IsContent, IsId, IsPlan};
+ghost use Rattle.row_codec.specs.{Tables.plan_rows, Tables.volume_rows, SpanBounds.Knows};
+ghost use Rattle.row_codec.specs.RowsRead.{IsHead, IsVolumeAt, listing_rows, HasCollected, HasNoArea, AreWantedNear};
+ghost use Rattle.desk_tables.specs.Store.{own_of, ReadsPlans, ReadsSpans};
 
 use crate::reading::plans::max_rows_beside;
 use crate::tables::DeskTables;

@@ -2,10 +2,7 @@
 
 ghost use Rattle.std.specs.Prelude.{◌≡◌, ◌≤◌, ◌∷◌, [], IfOk, IsSome, IsTrue};
 ghost use Rattle.desk_rules.specs.Limits.{max_priority};
-ghost use Rattle.desk_store.specs.Changes.{AreDistinct, AreStored};
-ghost use Rattle.desk_store.specs.StoreFaults.{IsHonest};
-ghost use Rattle.desk_store.specs.StoreChange.{IsFitting};
-ghost use Rattle.desk_store.specs.World.{ceiling_of, plans_of};
+ghost use Rattle.desk_store.specs.{Changes.AreDistinct, Changes.AreStored, Changes.IsHonest, Changes.IsFitting, World.ceiling_of, World.plans_of};
 ghost use Rattle.desk_store.specs.declared.change.Change.TheVariants as change;
 
 use crate::desks::MOMENT;

@@ -2,7 +2,7 @@
 use Rattle.std.proofs.Common.{◌≡◌, ℕ, Bool, true, false, List, [], ◌∷◌, ◌++◌, Option, None, Some, OnErr, append-nil, append_assoc, ap, inl, inr, subst, sym, ◌∙◌}
 use Rattle.std.proofs.lemmas.List.Elements.{All-append, All-cons, All-nil, All-weaker}
 use Rattle.std.specs.Prelude.{All, Result, Ok, Err, is_ok}
-use Rattle.desk_wire.specs.Passage.{course}
+use Rattle.desk_wire.specs.Streams.{course}
 use Rattle.host_files.specs.Naming.{ChangesOwn, Cleared, ClearsOwn, Failed, Follows, Free, GivesNoName, GivesUp, HasFailedStep, IsNotFree, IsUnnamed, LeavesNames, LeavesOthers, Ordered, Removed, Renamed, Step, Synced, Takes, TakesAll, Tried, ScratchCopied, clearing, free_steps, log_of, named_steps, part_of}
 
 -- steps after steps

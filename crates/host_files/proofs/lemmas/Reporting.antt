@@ -3,8 +3,8 @@ use Rattle.std.proofs.Common.{ℕ, List, [], ◌++◌, take, Option, None, Some,
 use Rattle.std.proofs.KnownBytes.{Appends-nil, Appends-trans}
 use Rattle.std.specs.Io.KnownBytes.{Appends}
 use Rattle.io_ends.specs.declared.writing.WriteError.{WriteError}
-use Rattle.desk_wire.specs.Passage.{Course, course}
-use Rattle.host_files.specs.Reporting.{IsWrittenIfRoom, IsWrittenUpTo, Reports}
+use Rattle.desk_wire.specs.Streams.{Course, course}
+use Rattle.host_files.specs.Naming.{IsWrittenIfRoom, IsWrittenUpTo, Reports}
 
 -- nothing is reported
 pub reports_nothing : (now : Option (List ℕ)) → Reports (course now now)

@@ -13,13 +13,11 @@ use Rattle.std.proofs.lemmas.List.Kept.{IsStrictlySortedBy-filter}
 use Rattle.std.proofs.lemmas.List.Sorted.{IsPermutation-refl, IsPermutation-sym, IsPermutation-trans, IsPermutation-cons, IsPermutation-middle, IsPermutation-append_left, IsPermutation-append_right, IsPermutation-append_comm}
 use Rattle.volume4d.specs.Volume.{Block}
 use Rattle.desk_rules.specs.declared.plan.PlanRow.{PlanRow}
-use Rattle.desk_rules.specs.Plan.{is_live}
-use Rattle.desk_store.specs.World.{Filed, World, text_cmp, filed_cmp, plans_of, is_by, has_id}
-use Rattle.desk_store.specs.Changes.{put_filed, filed_by, put_row, with_plans, with_operator, replaced, closed, close_row, clear_rows}
-use Rattle.desk_store.specs.OwnRows.{is_own}
+use Rattle.desk_rules.specs.Outcome.{is_live}
+use Rattle.desk_store.specs.World.{Filed, World, text_cmp, filed_cmp, plans_of, is_by, has_id, is_own}
+use Rattle.desk_store.specs.Changes.{put_filed, filed_by, put_row, with_plans, with_operator, replaced, closed, close_row, clear_rows, changed_by}
 use Rattle.desk_store.proofs.lemmas.Order.{inserted, all_weaker, put_sorted, replaced_sorted, rows_sorted, sorted_map}
 use Rattle.desk_store.proofs.lemmas.Change.{stays, cleared_plans, close_filed, closed_plans}
-use Rattle.desk_store.specs.StoreChange.{changed_by}
 use Rattle.desk_store.specs.declared.change.Change.{Change}
 use Rattle.desk_store.specs.declared.change.Change.TheVariants.{Enrol, Put, Close, Clear}
 use Rattle.live_index.specs.declared.volume.LiveVolume.{LiveVolume}

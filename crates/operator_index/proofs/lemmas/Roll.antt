@@ -9,14 +9,13 @@ use Rattle.std.proofs.lemmas.Cmp.{tied_itself}
 use Rattle.std.proofs.lemmas.List.Sums.{sum_by-cons}
 use Rattle.std.proofs.lemmas.Map.Lookups.{exact_bytes}
 use Rattle.desk_rules.specs.declared.plan.PlanRow.{PlanRow}
-use Rattle.desk_rules.specs.States.{states_in, states_of}
+use Rattle.desk_rules.specs.Outcome.{states_in, states_of}
 use Rattle.desk_store.specs.World as world
 use Rattle.desk_store.specs.World.{Filed, Listed, World, text_cmp, ceiling_of, plans_of, rows_by, is_by, stored_of}
 use Rattle.desk_store.specs.Changes as changes
-use Rattle.desk_store.specs.Changes.{closed, close_row, clear_rows, list_operator, put_row, with_operator, with_plans}
+use Rattle.desk_store.specs.Changes.{closed, close_row, clear_rows, list_operator, put_row, with_operator, with_plans, changed_by}
 use Rattle.desk_store.proofs.lemmas.Order.{is_equal}
 use Rattle.desk_store.proofs.lemmas.World.{own_replaced, others_kept}
-use Rattle.desk_store.specs.StoreChange.{changed_by}
 use Rattle.desk_store.specs.declared.change.Change.{Change}
 use Rattle.desk_store.specs.declared.change.Change.TheVariants.{Enrol, Put, Close, Clear}
 use Rattle.operator_index.specs.declared.account.PlanState.{PlanState}

@@ -7,13 +7,11 @@ use Rattle.sqlite_value.specs.Order.{Row}
 use Rattle.volume4d.specs.VolumeLimits.{max_volumes}
 use Rattle.volume4d.specs.Volume.{Block, is_area}
 use Rattle.desk_rules.specs.declared.plan.PlanRow.{PlanRow}
-use Rattle.desk_store.specs.World.{Filed}
+use Rattle.desk_store.specs.World.{Filed, IsValidVolume}
 use Rattle.desk_sql.specs.Rows.{joined}
 use Rattle.row_codec.specs.declared.values.PlanHead.{PlanHead}
 use Rattle.row_codec.specs.Tables.{area_rows, row_of_plan, row_of_volume, volume_rows_from}
-use Rattle.desk_store.specs.Content.{IsValidVolume}
-use Rattle.row_codec.specs.RowsRead.{IsVolumeAt, IsHead, joined_from, joined_rows, listing_rows}
-use Rattle.row_codec.specs.Gathering.{HasNoArea, IsNoHead, IsRefusedRow, IsPlanUnderWay, Leads}
+use Rattle.row_codec.specs.RowsRead.{IsVolumeAt, IsHead, joined_from, joined_rows, listing_rows, HasNoArea, IsNoHead, IsRefusedRow, IsPlanUnderWay, Leads}
 use Rattle.row_codec.proofs.lemmas.Order.{ArePlans}
 use Rattle.row_codec.proofs.JoinLemmas.{IsFirst, each_at, first_row, head_read, no_rows, not_later, stays_later, volume_read}
 

@@ -7,13 +7,10 @@ use Rattle.sqlite_value.specs.Order.{Row, column}
 use Rattle.volume4d.specs.declared.slab.Slab.{Slab}
 use Rattle.volume4d.specs.Slab.{span_of, slab_window}
 use Rattle.desk_rules.specs.declared.words.Usage.TheVariants as usage
-use Rattle.volume4d.specs.Volume.{Block}
-use Rattle.desk_store.specs.World.{Filed}
-use Rattle.row_codec.specs.Tables.{id_text, row_of_plan, row_of_volume, volume_rows_from, area_rows, row_of_span}
-use Rattle.desk_store.specs.Content.{IsId, IsValidVolume}
-use Rattle.volume4d.specs.Volume.{is_area}
+use Rattle.volume4d.specs.Volume.{Block, is_area}
+use Rattle.desk_store.specs.World.{Filed, IsId, IsValidVolume}
+use Rattle.row_codec.specs.Tables.{id_text, row_of_plan, row_of_volume, volume_rows_from, area_rows, row_of_span, IsFiled, AreRowsOf, AreNumbersOf, IsKeyed, IsWindowAt, slab_row, row_fault_of}
 use Rattle.row_codec.specs.RowsRead.{IsVolumeAt, IsHead}
-use Rattle.row_codec.specs.Records.{IsFiled, AreRowsOf, AreNumbersOf, IsKeyed, IsWindowAt, slab_row, row_fault_of}
 use Rattle.row_codec.specs.declared.exact.RowFault.TheVariants.{InvalidRows}
 use Rattle.desk_store.specs.declared.fault.StoreFault.{StoreFault}
 use Rattle.desk_store.specs.declared.fault.StoreFault.TheVariants.{OutOfMemory, Store}

@@ -4,12 +4,11 @@ use Rattle.std.specs.List.{flat_map, AllByRecursion}
 use Rattle.sqlite_value.specs.declared.value.Value.TheVariants.{Int, Text}
 use Rattle.sqlite_value.specs.Order.{Row, column, value_cmp}
 use Rattle.volume4d.specs.Volume.{Block}
-use Rattle.desk_store.specs.World.{Filed, text_cmp, filed_cmp}
+use Rattle.desk_store.specs.World.{Filed, text_cmp, filed_cmp, IsPlan}
 use Rattle.row_codec.specs.Tables.{id_text, rows_from}
 use Rattle.std.specs.declared.cmp.Ordering.{Ordering}
 use Rattle.std.specs.Ordering.{ordering_reverse, is_eq, ordering_then, int_cmp}
 use Rattle.std.specs.Cmp.Lexicographic.{nat_list_cmp_total}
-use Rattle.desk_store.specs.Content.{IsPlan}
 use Rattle.std.specs.Cmp.{IsTotalOrder}
 use Rattle.std.proofs.lemmas.Cmp.{on_total, then_total, nat_cmp_total}
 use Rattle.std.proofs.lemmas.Bool.Decides.{nat_tests}

@@ -8,12 +8,9 @@ use Rattle.std.proofs.lemmas.List.{append-nil, take_at, drop_at}
 use Rattle.sqlite_value.specs.declared.value.Value.TheVariants.{Text}
 use Rattle.sqlite_value.specs.Order.{Row}
 use Rattle.volume4d.specs.Volume.{Block}
-use Rattle.desk_store.specs.World.{Filed, text_cmp, filed_cmp}
+use Rattle.desk_store.specs.World.{Filed, text_cmp, filed_cmp, IsPlan}
 use Rattle.desk_store.proofs.lemmas.Order.{all_weaker, all_append}
-use Rattle.row_codec.specs.Tables.{id_text, row_of_plan, plan_rows, row_of_volume, rows_from, volume_rows_from, area_rows, volume_rows}
-use Rattle.desk_store.specs.Content.{IsPlan}
-use Rattle.row_codec.specs.Records.{IsFiled, AreRowsOf}
-use Rattle.row_codec.specs.ContentRows.{ArePlanRows, is_row_of}
+use Rattle.row_codec.specs.Tables.{id_text, row_of_plan, plan_rows, row_of_volume, rows_from, volume_rows_from, area_rows, volume_rows, IsFiled, AreRowsOf, ArePlanRows, is_row_of}
 use Rattle.row_codec.proofs.lemmas.Order.{after_key, after_place, placed}
 use Rattle.row_codec.proofs.lemmas.Id.{text_order}
 use Rattle.row_codec.proofs.lemmas.Order.{ArePlans, turned}

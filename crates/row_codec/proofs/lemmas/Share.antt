@@ -13,7 +13,7 @@ use Rattle.sqlite_keyed.proofs.ListLemmas.{filter_none}
 use Rattle.desk_rules.specs.Limits.{max_plans}
 use Rattle.desk_store.specs.World.{Filed, Listed, text_cmp, listed_cmp, filed_cmp, is_by, rows_by, ceiling_of, IsListed}
 use Rattle.desk_store.proofs.lemmas.Order.{is_equal, all_weaker}
-use Rattle.row_codec.specs.ContentRows.{HaveOperatorsAndRoom}
+use Rattle.row_codec.specs.Tables.{HaveOperatorsAndRoom}
 use Rattle.row_codec.proofs.lemmas.Order.{turned}
 
 -- a name among those of operators

@@ -13,22 +13,36 @@ use Rattle.sqlite_value.specs.Order.{Row, column}
 use Rattle.sqlite_value.proofs.OrderLemmas.{value_cmp-Int}
 use Rattle.sqlite_trees.proofs.ListLemmas.{all-permutation}
 use Rattle.s2_cover.specs.declared.spans.Span.{Span}
-use Rattle.s2_cover.specs.Ranges.{IsRanges}
+use Rattle.s2_cover.specs.Covers.{IsRanges}
 use Rattle.volume4d.specs.declared.slab.Slab.{Slab}
 use Rattle.volume4d.specs.Volume.{Block}
 use Rattle.desk_rules.specs.declared.plan.PlanRow.{PlanRow}
-use Rattle.desk_rules.specs.Plan.{is_live}
+use Rattle.desk_rules.specs.Outcome.{is_live}
 use Rattle.desk_sql.specs.Rows as sql
 use Rattle.desk_sql.specs.Rows.{Tables, is_above, is_at_least, is_at_most, is_below}
 use Rattle.desk_store.specs.World.{Filed, World, text_cmp, rows_by, is_by, has_id}
-use Rattle.desk_store.specs.Changes.{put_row, closed, close_row, is_named, clear_rows, filed_by, is_before, is_after, replaced, with_plans, with_operator}
-use Rattle.desk_store.specs.StoreChange.{changed_by}
+use Rattle.desk_store.specs.Changes.{put_row, closed, close_row, is_named, clear_rows, filed_by, is_before, is_after, replaced, with_plans, with_operator, changed_by}
 use Rattle.desk_store.specs.declared.change.Change.{Change}
 use Rattle.desk_store.specs.declared.change.Change.TheVariants.{Enrol, Put, Close, Clear}
 use Rattle.row_codec.specs.Tables.{row_of_span, AreSpanRowsFrom, ArePlanSpanRows, AreSpanRows, AreTables}
 use Rattle.row_codec.specs.declared.span_bounds.SpanBounds.{SpanBounds}
-use Rattle.row_codec.specs.RivalRows.{span_filter_of, is_asked_if}
-use Rattle.row_codec.specs.SpanBounds.{FindAll, IsKnown, IsWithinExtent, Keeps, begins_in, IsKnownBlock, IsKnownPlan, AreKnownPlans, Bounds, BringsKnown, IsKnownRow, HasKnownSpan}
+use Rattle.row_codec.specs.RowsRead.{span_filter_of}
+use Rattle.row_codec.specs.SpanBounds.{FindAll, IsKnown, IsWithinExtent, Keeps, begins_in, IsKnownBlock, IsKnownPlan, AreKnownPlans, Bounds, BringsKnown, IsKnownRow}
+use Rattle.desk_sql.specs.Rows.{passes_filter}
+use Rattle.row_codec.specs.RowsRead.{span_filter_from}
+
+-- these columns are leaf positions, and the bounds hold for the span between them
+pub record HasKnownSpan (span_bounds : SpanBounds) (row : Row) : Type 0 where
+  pub span : Span
+  pub begins : column row 3 ≡ Int (pos span.first)
+  pub ends : column row 4 ≡ Int (pos span.last)
+  pub known : IsKnown span_bounds span
+
+-- a query for the spans that pass a test finds this row of `span2`
+abbrev pub is_asked_if : (Row → Bool) → ℕ → Slab → Span → Row → Bool
+is_asked_if passes least extent query row =
+    is_at_least (column row 3) (pos query.first)
+    && (passes_filter (span_filter_from query extent least) row && passes row)
 
 -- ---- all of some elements
 

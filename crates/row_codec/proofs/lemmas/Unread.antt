@@ -10,14 +10,11 @@ use Rattle.uuid.proofs.TextLemmas.{hyphenated_ascii}
 use Rattle.sqlite_value.specs.declared.value.Value.{Value}
 use Rattle.sqlite_value.specs.declared.value.Value.TheVariants.{Int, Text, Blob}
 use Rattle.sqlite_value.specs.Order.{Row, column}
-use Rattle.volume4d.specs.FootprintBytes.{footprint_bytes, HasValidParts, AreBytesOf}
-use Rattle.volume4d.specs.Attributes.{IsFaultOf}
+use Rattle.volume4d.specs.Footprint.{footprint_bytes, HasValidParts, AreBytesOf}
+use Rattle.volume4d.specs.Volume.{IsFaultOf, Shape, cells, rectangle, is_footprint, has_count, Block, WindowParts, window_or_fault, is_window}
 use Rattle.volume4d.specs.declared.fault.VolumeFault.{VolumeFault}
 use Rattle.volume4d.specs.declared.fault.VolumeFault.TheVariants.{Cells, TooManyCells, OutOfMemory}
 use Rattle.volume4d.specs.VolumeLimits.{within_altitudes, within_times, within_length}
-use Rattle.volume4d.specs.Shape.{Shape, cells, rectangle, is_footprint, has_count}
-use Rattle.volume4d.specs.Volume.{Block}
-use Rattle.volume4d.specs.Windows.{WindowParts, window_or_fault, is_window}
 use Rattle.volume4d.specs.declared.window.WindowFault.{WindowFault}
 use Rattle.volume4d.specs.declared.window.WindowFault.TheVariants.{Altitude, Time, TooLong}
 use Rattle.sqlite.specs.declared.error.Error.{Error}
@@ -26,7 +23,7 @@ use Rattle.sqlite.specs.declared.error.ErrorCode.TheVariants as code
 use Rattle.desk_store.specs.declared.fault.StoreFault.{StoreFault}
 use Rattle.desk_store.specs.declared.fault.StoreFault.TheVariants as store
 use Rattle.row_codec.specs.Tables.{id_text}
-use Rattle.desk_store.specs.Content.{IsId, IsValidVolume}
+use Rattle.desk_store.specs.World.{IsId, IsValidVolume}
 use Rattle.row_codec.specs.RowsRead.{IsVolumeAt}
 use Rattle.row_codec.proofs.ReadingLemmas.{window_is, one_int, one_blob, one_more}
 

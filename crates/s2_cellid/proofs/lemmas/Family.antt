@@ -14,8 +14,7 @@ use Rattle.s2_hilbert.proofs.lemmas.Place.{power_of_four}
 use Rattle.s2_hilbert.proofs.lemmas.Curve.{powers, position_is, place_on_face_below, position_below, position_undone, leaf_is, same_leaf, square_number, first_is}
 use Rattle.s2_hilbert.proofs.lemmas.Square.{quotient_range, same_square, square_quotient, has_positions, quarter_count}
 use Rattle.s2_hilbert.proofs.lemmas.Place.{four_pow_pos}
-use Rattle.s2_cellid.specs.Cell.{lowest_place, lowest_bit, level_of, face_of, IsCellId, first_leaf, last_leaf, leaf_id_at, cell_has}
-use Rattle.s2_cellid.specs.Family.{leaf_id, cell_has_leaf, square_id, parent_id, child_id}
+use Rattle.s2_cellid.specs.Cell.{lowest_place, lowest_bit, level_of, face_of, IsCellId, first_leaf, last_leaf, leaf_id_at, cell_has, leaf_id, cell_has_leaf, square_id, parent_id, child_id}
 use Rattle.s2_cellid.proofs.lemmas.Block.{SharesLeaf, leaves_between, ends_below, leaf_has_itself, power_double, block_of, number_of, id_between}
 
 pub count_room : (level : ℕ) → (0 < leaf_count level) × (leaf_count level ≤ 2 ^ 60)

@@ -4,22 +4,25 @@ use Rattle.std.specs.List.{AllByRecursion, find}
 use Rattle.std.specs.List.Sorted.{IsStrictlySortedBy}
 use Rattle.std.specs.Ordering.{is_eq}
 use Rattle.std.proofs.lemmas.Map.Lookups.{exact_bytes}
-use Rattle.volume4d.specs.FootprintBytes.{footprint_bytes, HasValidParts}
-use Rattle.volume4d.specs.Shape.{Shape}
-use Rattle.desk_rules.specs.Limits.{max_priority}
-use Rattle.desk_rules.specs.Name.{is_operator_name}
+use Rattle.volume4d.specs.Footprint.{footprint_bytes, HasValidParts}
+use Rattle.volume4d.specs.Volume.{Shape}
+use Rattle.desk_rules.specs.Limits.{max_priority, is_operator_name}
 use Rattle.sqlite_value.specs.Order.{Row}
 use Rattle.desk_sql.specs.Rows.{Tables}
-use Rattle.desk_store.specs.World.{Filed, Listed, World, text_cmp, listed_cmp, filed_cmp, IsListed}
+use Rattle.desk_store.specs.World.{Filed, Listed, World, text_cmp, listed_cmp, filed_cmp, IsListed, IsPlan, IsContent}
 use Rattle.desk_store.proofs.lemmas.Order.{is_equal, all_weaker}
-use Rattle.row_codec.specs.Tables.{AreSpanRows}
-use Rattle.desk_store.specs.Content.{IsPlan, IsContent}
-use Rattle.row_codec.specs.Records.{IsOperator, IsFiled}
-use Rattle.row_codec.specs.ContentRows.{AreOperatorRows, ArePlanRows, HaveOperatorsAndRoom}
-use Rattle.table_load.specs.Opening.{AreAgreed, AreRows}
+use Rattle.row_codec.specs.Tables.{AreSpanRows, IsOperator, IsFiled, AreOperatorRows, ArePlanRows, HaveOperatorsAndRoom}
+use Rattle.table_load.specs.Opening.{AreRows}
 use Rattle.table_load.proofs.lemmas.Content.{one_operators, one_plans}
 use Rattle.row_codec.proofs.lemmas.Plan.{plans_within}
 use Rattle.row_codec.proofs.lemmas.Share.{has_name, if_listed}
+
+-- operators by name, plans by operator and id, each operator's plans few, and these span rows are the plans'
+pub record AreAgreed (ls : List Listed) (ps : List Filed) (rows : List Row) : Type 0 where
+  pub names : IsStrictlySortedBy listed_cmp ls
+  pub keys : IsStrictlySortedBy filed_cmp ps
+  pub shared : HaveOperatorsAndRoom ls ps
+  pub spans : AreSpanRows ps rows
 
 abbrev pub world_of : List Listed → List Filed → World
 world_of ls ps = record { operators = ls; plans = ps }

@@ -8,16 +8,14 @@ use Rattle.std.proofs.lemmas.List.Sorted.{IsPermutation-trans, IsPermutation-sym
 use Rattle.sqlite_value.specs.declared.value.Value.TheVariants.{Int}
 use Rattle.sqlite_value.specs.Order.{Row, column}
 use Rattle.desk_sql.specs.Rows.{Tables}
-use Rattle.volume4d.specs.FootprintBytes.{footprint_bytes, HasValidParts}
-use Rattle.volume4d.specs.Shape.{Shape}
-use Rattle.volume4d.specs.Volume.{Block, is_area}
+use Rattle.volume4d.specs.Footprint.{footprint_bytes, HasValidParts}
+use Rattle.volume4d.specs.Volume.{Shape, Block, is_area}
 use Rattle.desk_rules.specs.declared.words.Usage.{Usage}
 use Rattle.desk_rules.specs.declared.words.Usage.TheVariants as usage
 use Rattle.desk_rules.specs.declared.words.Aircraft.{Aircraft}
 use Rattle.desk_rules.specs.declared.words.Aircraft.TheVariants as aircraft
-use Rattle.desk_store.specs.World.{Filed, Listed, World, text_cmp}
+use Rattle.desk_store.specs.World.{Filed, Listed, World, text_cmp, IsId, IsValidVolume, IsPlan, IsContent}
 use Rattle.row_codec.specs.Tables.{id_text, usage_number, aircraft_number, row_of_operator, operator_rows, row_of_plan, plan_rows, row_of_volume, volume_rows_from, volume_rows, AreTables}
-use Rattle.desk_store.specs.Content.{IsId, IsValidVolume, IsPlan, IsContent}
 use Rattle.row_codec.proofs.lemmas.Id.{text_order}
 use Rattle.table_load.proofs.RowLemmas.{operators_ascend, plans_ascend, volumes_ascend, one_order}
 

@@ -12,16 +12,13 @@ use Rattle.desk_sql.specs.declared.opening.finding.TablesPresent.{TablesPresent}
 use Rattle.desk_sql.specs.declared.opening.finding.TablesPresent.TheVariants.{Nothing, Packed}
 use Rattle.desk_sql.specs.Schema.{desk_schema}
 use Rattle.desk_sql.specs.Rows.{IsDesk, IsMadeTo, Tables, tables_at, tables_of, has_old_rows}
-use Rattle.desk_sql.specs.Effects.{Makes, MayMake, Spares}
-use Rattle.desk_sql.specs.Frames.{OnlyReads, Remembers}
-use Rattle.desk_sql.specs.Finding.{Holds}
-use Rattle.desk_sql.specs.Making.{MayComplete}
-use Rattle.desk_sql.specs.Unpacking.{RemakesTables}
+use Rattle.desk_sql.specs.Effects.{Makes, MayMake, Spares, OnlyReads, Remembers, Holds}
+use Rattle.desk_sql.specs.Changing.{MayComplete, RemakesTables}
 use Rattle.desk_store.specs.World.{Filed, World}
 use Rattle.row_codec.specs.Tables.{AreTables, AreSpanRows, cover_rows, operator_rows, plan_rows, volume_rows}
 use Rattle.table_load.specs.Opening.{HasNewRows, HasRowsOld, IsContentOf}
 use Rattle.table_load.specs.Moving.{AddsPlansRows, HasAllTables, HasNoNewRows, IsOldContentOf, MovesRows, OrdersRows, RemovesOldRows}
-use Rattle.table_load.specs.CutShort.{IsCompletedAs, IsMovedAs, LeavesShownOr, MayBecome}
+use Rattle.table_load.specs.OpeningSteps.{IsCompletedAs, IsMovedAs, LeavesShownOr, MayBecome}
 use Rattle.table_load.proofs.lemmas.Moving.{makes_then, remembers_then}
 use Rattle.table_load.proofs.lemmas.Store.{nothing, nothing_holds}
 

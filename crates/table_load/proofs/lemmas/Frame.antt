@@ -3,8 +3,7 @@ use Rattle.std.proofs.Common.{◌≡◌, ◌≤◌, false, refl, ◌∙◌, arit
 use Rattle.sqlite_trees.specs.declared.store.Store.{Ghosts}
 use Rattle.sqlite_trees.specs.View.{doubt}
 use Rattle.sqlite.specs.Held.{Held, state}
-use Rattle.desk_sql.specs.Effects.{StaysShown}
-use Rattle.desk_sql.specs.Frames.{OnlyReads}
+use Rattle.desk_sql.specs.Effects.{StaysShown, OnlyReads}
 
 module _ {S : Type 0} (g : Ghosts S) where
   -- what is kept twice is kept

@@ -13,16 +13,14 @@ use Rattle.sqlite_value.proofs.OrderLemmas.{value_cmp_total, value_cmp-Text}
 use Rattle.sqlite_trees.specs.Tree.{IsAscending}
 use Rattle.sqlite_keyed.proofs.ListLemmas.{all_map, ascending-append}
 use Rattle.s2_cover.specs.declared.spans.Span.{Span}
-use Rattle.s2_cover.specs.Ranges.{IsSpan, IsApart}
+use Rattle.s2_cover.specs.Covers.{IsSpan, IsApart}
 use Rattle.volume4d.specs.Volume.{Block}
-use Rattle.desk_rules.specs.Plan.{is_live}
-use Rattle.desk_sql.specs.Rows.{Tables, Lists, by_cells}
-use Rattle.desk_sql.specs.Volumes.{cover_part, volume_part}
-use Rattle.desk_store.specs.World.{Filed, Listed, World, text_cmp, listed_cmp, filed_cmp}
+use Rattle.desk_rules.specs.Outcome.{is_live}
+use Rattle.desk_sql.specs.Rows.{Tables, Lists, by_cells, cover_part, volume_part}
+use Rattle.desk_store.specs.World.{Filed, Listed, World, text_cmp, listed_cmp, filed_cmp, IsPlan, IsContent}
 use Rattle.desk_store.proofs.lemmas.Order.{all_weaker, all_append}
 use Rattle.row_codec.specs.Tables.{id_text, row_of_operator, operator_rows, row_of_plan, plan_rows, row_of_volume, rows_from, volume_rows_from, volume_rows, row_of_cover, cover_rows, row_of_span, AreSpanRowsFrom, ArePlanSpanRows, AreSpanRows, HasNoOldRows, AreTables}
-use Rattle.desk_store.specs.Content.{IsPlan, IsContent}
-use Rattle.table_load.specs.Opening.{AreRows, AreAllRows, AreSortedByKey, AreSortedHeads}
+use Rattle.table_load.specs.Opening.{AreRows, AreSortedHeads}
 use Rattle.table_load.specs.Moving.{AreOldTables, AreSortedOld, HasNoNewRows}
 use Rattle.table_load.proofs.CoverLemmas.{have_covers}
 use Rattle.row_codec.proofs.lemmas.Id.{text_order, then_then}
@@ -31,6 +29,19 @@ use Rattle.row_codec.proofs.lemmas.Order.{ArePlans}
 use Rattle.row_codec.proofs.lemmas.Order.{in_order, places_less, filed_total}
 use Rattle.row_codec.proofs.lemmas.Plan.{HasKey, placed_keyed}
 use Rattle.table_load.proofs.lemmas.Span.{spans_keyed}
+
+-- the tables, each put in the order of its key
+pub record AreSortedByKey (t rows : Tables) : Type 0 where
+  pub operator_part : Lists (0 ∷ []) t.operators rows.operators
+  pub plan_part : Lists (0 ∷ 1 ∷ []) t.plans rows.plans
+  pub volume_part : Lists (0 ∷ 1 ∷ 2 ∷ []) t.volumes rows.volumes
+  pub cover_part : Lists (0 ∷ 1 ∷ 2 ∷ []) t.covers rows.covers
+  pub span_part : Lists (0 ∷ 1 ∷ 2 ∷ 3 ∷ []) t.spans rows.spans
+
+-- and also its covers
+pub record AreAllRows (t : Tables) (w : World) : Type 0 where
+  pub rows : AreRows t w
+  pub covers : t.covers ≡ cover_rows w.plans
 
 -- ---- operators
 

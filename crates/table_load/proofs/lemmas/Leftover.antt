@@ -29,9 +29,7 @@ use Rattle.sqlite.specs.declared.file.Leftover.{Leftover}
 use Rattle.sqlite.specs.declared.file.Leftover.TheVariants as left
 use Rattle.sqlite.proofs.FileLemmas.{is_something}
 use Rattle.sqlite.proofs.Theorems.{opens_again}
-use Rattle.table_load.specs.Files.{FindsFirst, IsUnread, IsUnreached}
-use Rattle.table_load.specs.Leaving.{IsFoundAfter, IsImageLeft}
-use Rattle.table_load.specs.Leftovers.{IsKeptBySqlite, IsLeftOf, MayRemain, RemainsOf}
+use Rattle.table_load.specs.Files.{FindsFirst, IsUnread, IsUnreached, IsFoundAfter, IsImageLeft, IsKeptBySqlite, IsLeftOf, MayRemain, RemainsOf}
 use Rattle.table_load.specs.declared.path.NotOpened.{NotOpened}
 
 -- what a crash may leave of a file after these calls, the newest first

@@ -10,19 +10,15 @@ use Rattle.sqlite_value.specs.Order.{Row}
 use Rattle.sqlite.specs.Effect.{Database}
 use Rattle.sqlite.specs.State.{HasCleanDisk}
 use Rattle.sqlite.specs.Held.{Held, state}
-use Rattle.s2_cover.specs.CanonicalList.{canonical_list}
-use Rattle.s2_cover.specs.Rectangles.{RectParts}
-use Rattle.volume4d.specs.FootprintBytes.{HasValidParts, footprint_bytes}
-use Rattle.volume4d.specs.Shape.{Shape, rectangle, shape_positions}
+use Rattle.s2_cover.specs.Covers.{canonical_list, RectParts}
+use Rattle.volume4d.specs.Footprint.{HasValidParts, footprint_bytes}
+use Rattle.volume4d.specs.Volume.{Shape, rectangle, shape_positions}
 use Rattle.desk_sql.specs.declared.opening.finding.TablesPresent.{TablesPresent}
 use Rattle.desk_sql.specs.declared.opening.finding.TablesPresent.TheVariants.{All}
 use Rattle.desk_sql.specs.Rows.{IsMadeTo, Tables, tables_of, tables_at, has_old_rows}
-use Rattle.desk_sql.specs.Effects.{StaysShown, ShowsAsBefore, Makes, IsUnderWay}
-use Rattle.desk_sql.specs.Frames.{OnlyReads, Remembers}
-use Rattle.desk_sql.specs.Finding.{Holds, HasOthers}
-use Rattle.desk_store.specs.World.{Filed, World}
+use Rattle.desk_sql.specs.Effects.{StaysShown, ShowsAsBefore, Makes, IsUnderWay, OnlyReads, Remembers, Holds, HasOthers}
+use Rattle.desk_store.specs.World.{Filed, World, IsContent}
 use Rattle.row_codec.specs.Tables.{area_rows, area_covers, volume_rows, cover_rows, ArePlanSpanRows, AreSpanRows}
-use Rattle.desk_store.specs.Content.{IsContent}
 use Rattle.table_load.specs.declared.fault.OpenFault.{OpenFault}
 use Rattle.table_load.specs.Opening.{AreRows, BeginsWith, HasNoContent, HasRowsOld, ShowsNoDesk}
 use Rattle.table_load.specs.OpeningSteps.{BeginsAllMoved, HadNoOld, IsOpening, IsSetUp}

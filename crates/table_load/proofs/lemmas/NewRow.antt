@@ -2,8 +2,7 @@
 use Rattle.std.proofs.Common.{ℕ, List, length, IsTrue, arith, ◌≡◌, ◌≤◌, ◌+◌, ◌*◌, Bool, true, false, MatchBool, not, ◌&&◌, [], ◌∷◌, map, refl, sym, subst, Less, Equal, Greater}
 use Rattle.std.specs.Prelude.{nat_le}
 use Rattle.std.proofs.lemmas.Bool.{and_parts, leb-true}
-use Rattle.desk_rules.specs.Name.{is_operator_name}
-use Rattle.desk_rules.specs.Limits.{max_name_length}
+use Rattle.desk_rules.specs.Limits.{is_operator_name, max_name_length}
 use Rattle.desk_sql.specs.Changing.{IsShort, has_same_key}
 use Rattle.std.specs.Int.{w64, to_be_bytes}
 use Rattle.std.specs.List.{AllByRecursion, flat_map, list_all}
@@ -14,18 +13,16 @@ use Rattle.sqlite_trees.specs.Tree.{IsAscending}
 use Rattle.sqlite_trees.proofs.ListLemmas.{ascending_weaker}
 use Rattle.sqlite.specs.Ops.{is_null}
 use Rattle.s2_cover.specs.declared.spans.Span.{Span}
-use Rattle.s2_cover.specs.CanonicalList.{canonical_list}
-use Rattle.volume4d.specs.FootprintBytes.{HasValidParts, footprint_bytes}
+use Rattle.s2_cover.specs.Covers.{canonical_list}
+use Rattle.volume4d.specs.Footprint.{HasValidParts, footprint_bytes}
 use Rattle.volume4d.specs.VolumeLimits.{max_cells, max_cover}
-use Rattle.volume4d.specs.Shape.{Shape, cells, rectangle, is_footprint, shape_positions}
-use Rattle.volume4d.specs.Volume.{Block}
-use Rattle.desk_rules.specs.Plan.{is_live}
+use Rattle.volume4d.specs.Volume.{Shape, cells, rectangle, is_footprint, shape_positions, Block}
+use Rattle.desk_rules.specs.Outcome.{is_live}
 use Rattle.desk_sql.specs.Rows.{by_cells, is_same}
-use Rattle.desk_changes.specs.Putting.{AreShort, HaveOwnKeys}
-use Rattle.desk_store.specs.World.{Filed}
+use Rattle.desk_changes.specs.RowChanges.{AreShort, HaveOwnKeys}
+use Rattle.desk_store.specs.World.{Filed, IsValidVolume}
 use Rattle.desk_store.proofs.lemmas.Order.{all_append}
 use Rattle.row_codec.specs.Tables.{id_text, rows_from, volume_rows_from, row_of_cover, row_of_span, AreSpanRowsFrom, ArePlanSpanRows}
-use Rattle.desk_store.specs.Content.{IsValidVolume}
 
 -- a name is short
 pub name_short : (name : List ℕ) → IsTrue (is_operator_name name) → IsShort name

@@ -15,21 +15,19 @@ use Rattle.desk_sql.specs.declared.opening.finding.TablesPresent.TheVariants.{No
 use Rattle.desk_sql.specs.declared.opening.numbers.DeskTable.TheVariants as desk
 use Rattle.desk_sql.specs.Schema.{tree_of, has_table}
 use Rattle.desk_sql.specs.Rows.{IsDesk, IsMadeTo, AreNumbered, Tables, tables_of, tables_at, has_rows, has_old_rows}
-use Rattle.desk_sql.specs.Effects.{IsOpenIfClean, ShowsAsBefore, StaysShown}
-use Rattle.desk_sql.specs.Frames.{OnlyReads}
-use Rattle.desk_sql.specs.Finding.{Holds}
-use Rattle.desk_sql.specs.Refusals.{AreRowsUnread, IsRefusal}
+use Rattle.desk_sql.specs.Effects.{IsOpenIfClean, ShowsAsBefore, StaysShown, OnlyReads, Holds}
+use Rattle.desk_sql.specs.Statements.{AreRowsUnread, IsRefusal}
 use Rattle.sqlite_value.specs.Order.{Row}
-use Rattle.desk_store.specs.World.{World}
+use Rattle.desk_store.specs.World.{World, IsContent}
 use Rattle.table_load.specs.declared.fault.OpenFault.{OpenFault}
 use Rattle.table_load.specs.declared.fault.OpenFault.TheVariants.{NotADesk, OldSchema, Store}
-use Rattle.desk_store.specs.Content.{IsContent}
-use Rattle.table_load.specs.Standing.{Stands}
+use Rattle.table_load.specs.Opening.{Stands, HasNewRows, IsContentOf, AreNoContent, IsPart, BeganBlank, BeginsWith, ShowsNoDesk, ShowsOldRows, IsNoDesk, IsHindered, BlamesReading, BlamesDatabase, open_fault_of}
 use Rattle.row_codec.specs.Tables.{HasNoOldRows, AreTables}
-use Rattle.table_load.specs.Opening.{AreSortedByKey, AreAllRows, HasNewRows, IsContentOf, AreNoContent, IsPart, BeganBlank, BeginsWith, ShowsNoDesk, ShowsOldRows, IsNoDesk, IsHindered, BlamesReading, BlamesDatabase, open_fault_of}
 use Rattle.table_load.specs.OpeningSteps.{HadNone, IsOpening, IsRead, IsSetUp}
 use Rattle.table_load.proofs.lemmas.Frame.{kept_on}
 use Rattle.table_load.proofs.lemmas.KeyOrder.{are_rows, are_tables}
+use Rattle.table_load.proofs.lemmas.KeyOrder.{AreAllRows}
+use Rattle.table_load.proofs.lemmas.KeyOrder.{AreSortedByKey}
 
 -- what is made as a whole is a desk
 pub desk_made : (db : Database) → IsMadeTo All db → IsDesk db

@@ -13,20 +13,17 @@ use Rattle.sqlite.specs.Held.{Held, state}
 use Rattle.uuid.proofs.TextLemmas.{by_index_length}
 use Rattle.s2_cover.specs.declared.spans.Span.{Span}
 use Rattle.volume4d.specs.Volume.{Block}
-use Rattle.desk_rules.specs.Plan.{is_live}
+use Rattle.desk_rules.specs.Outcome.{is_live}
 use Rattle.desk_sql.specs.declared.opening.finding.TablesPresent.{TablesPresent}
 use Rattle.desk_sql.specs.Rows.{Tables, no_rows, tables_at}
-use Rattle.desk_sql.specs.Effects.{StaysShown}
-use Rattle.desk_sql.specs.Frames.{OnlyReads}
-use Rattle.desk_sql.specs.Refusals.{IsRefusal}
-use Rattle.desk_sql.specs.Changing.{IsShort}
-use Rattle.desk_sql.specs.Making.{AreSmall, HasSmallSpans, IsSmall}
+use Rattle.desk_sql.specs.Effects.{StaysShown, OnlyReads}
+use Rattle.desk_sql.specs.Statements.{IsRefusal}
+use Rattle.desk_sql.specs.Changing.{IsShort, AreSmall, HasSmallSpans, IsSmall}
 use Rattle.desk_store.specs.World.{Filed, World}
 use Rattle.desk_store.proofs.lemmas.Order.{all_append}
-use Rattle.row_codec.specs.Tables.{id_text, row_of_span, AreSpanRowsFrom, ArePlanSpanRows, AreSpanRows}
+use Rattle.row_codec.specs.Tables.{id_text, row_of_span, AreSpanRowsFrom, ArePlanSpanRows, AreSpanRows, IsFiled}
 use Rattle.table_load.specs.Opening.{BlamesReading, IsContentOf, open_fault_of}
 use Rattle.table_load.specs.Moving.{IsOldContentOf}
-use Rattle.row_codec.specs.Records.{IsFiled}
 use Rattle.table_load.proofs.lemmas.Assembly.{filed_within}
 use Rattle.table_load.proofs.lemmas.NewRow.{name_short}
 use Rattle.table_load.proofs.lemmas.Opening.{blames_reading}

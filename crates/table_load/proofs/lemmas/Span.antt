@@ -4,7 +4,7 @@ use Rattle.std.specs.List.{AllByRecursion}
 use Rattle.sqlite_value.specs.Order.{Row}
 use Rattle.s2_cover.specs.declared.spans.Span.{Span}
 use Rattle.volume4d.specs.Volume.{Block}
-use Rattle.desk_rules.specs.Plan.{is_live}
+use Rattle.desk_rules.specs.Outcome.{is_live}
 use Rattle.desk_store.specs.World.{Filed}
 use Rattle.desk_store.proofs.lemmas.Order.{all_append}
 use Rattle.row_codec.specs.Tables.{row_of_span, AreSpanRowsFrom, ArePlanSpanRows}

@@ -7,17 +7,13 @@ use Rattle.sqlite_trees.specs.View.{doubt}
 use Rattle.sqlite_value.specs.Order.{Row}
 use Rattle.sqlite.specs.State.{HasCleanDisk}
 use Rattle.sqlite.specs.Held.{Held, state}
-use Rattle.desk_sql.specs.Rows.{IsDesk, tables_of}
-use Rattle.desk_sql.specs.Effects.{StaysShown}
-use Rattle.desk_sql.specs.Frames.{OnlyReads}
-use Rattle.desk_sql.specs.Making.{Completes}
-use Rattle.desk_sql.specs.Rows.{no_rows}
+use Rattle.desk_sql.specs.Rows.{IsDesk, tables_of, no_rows}
+use Rattle.desk_sql.specs.Effects.{StaysShown, OnlyReads}
+use Rattle.desk_sql.specs.Changing.{Completes}
 use Rattle.desk_sql.specs.declared.opening.finding.TablesPresent.TheVariants.{Nothing}
-use Rattle.desk_store.specs.World.{World}
+use Rattle.desk_store.specs.World.{World, IsContent}
 use Rattle.row_codec.specs.Tables.{AreTables}
-use Rattle.desk_store.specs.Content.{IsContent}
-use Rattle.table_load.specs.Standing.{IsDatabaseOf, Stands}
-use Rattle.table_load.specs.Opening.{IsContentOf}
+use Rattle.table_load.specs.Opening.{IsDatabaseOf, Stands, IsContentOf}
 
 module _ {S : Type 0} (g : Ghosts S) (old new : Held S) (w : World) (stood : Stands g old w) where
   -- a query leaves what stands

@@ -15,22 +15,18 @@ use Rattle.sqlite_trees.specs.Tree.{IsAscending}
 use Rattle.sqlite.specs.Effect.{Database}
 use Rattle.sqlite.specs.Ops.{fits_i64}
 use Rattle.s2_cover.specs.declared.spans.Span.{Span}
-use Rattle.s2_cover.specs.CanonicalList.{canonical_list}
-use Rattle.s2_cover.specs.Ranges.{IsRanges}
-use Rattle.volume4d.specs.FootprintBytes.{HasValidParts}
+use Rattle.s2_cover.specs.Covers.{canonical_list, IsRanges}
+use Rattle.volume4d.specs.Footprint.{HasValidParts}
 use Rattle.volume4d.specs.VolumeLimits.{max_cover}
-use Rattle.volume4d.specs.Shape.{Shape, is_footprint, shape_positions}
-use Rattle.volume4d.specs.Volume.{Block}
-use Rattle.desk_rules.specs.Plan.{is_live}
-use Rattle.desk_changes.specs.Batches.{AddsSpans, AddsVolumes}
+use Rattle.volume4d.specs.Volume.{Shape, is_footprint, shape_positions, Block}
+use Rattle.desk_rules.specs.Outcome.{is_live}
+use Rattle.desk_changes.specs.RowChanges.{AddsSpans, AddsVolumes, AreNewRows, AreNewSpans, AreNewVolumes, AreShort, HasRoomFor, IsShortValue, TakesRoom}
 use Rattle.desk_sql.specs.Changing.{HasKey, LacksKey, has_same_key}
-use Rattle.desk_changes.specs.Putting.{AreNewRows, AreNewSpans, AreNewVolumes, AreShort, HasRoomFor, IsShortValue, TakesRoom}
 use Rattle.desk_sql.specs.Rows.{Tables, tables_of}
 use Rattle.desk_store.specs.World.{Filed}
 use Rattle.desk_store.proofs.lemmas.Order.{all_append, all_weaker}
-use Rattle.row_codec.specs.Records.{IsFiled}
-use Rattle.row_codec.specs.Tables.{area_covers, area_rows, cover_rows, id_text, row_of_plan, plan_rows, row_of_span, volume_rows, AreSpanRowsFrom, ArePlanSpanRows, AreSpanRows}
-use Rattle.table_load.specs.Writable.{AreAwaited, AreWritable}
+use Rattle.row_codec.specs.Tables.{IsFiled, area_covers, area_rows, cover_rows, id_text, row_of_plan, plan_rows, row_of_span, volume_rows, AreSpanRowsFrom, ArePlanSpanRows, AreSpanRows}
+use Rattle.table_load.specs.Opening.{AreAwaited, AreWritable}
 use Rattle.table_load.proofs.lemmas.NewRow.{name_short}
 use Rattle.row_codec.proofs.lemmas.Order.{ArePlans}
 use Rattle.table_load.proofs.lemmas.KeyOrder.{spans_up, volumes_up}

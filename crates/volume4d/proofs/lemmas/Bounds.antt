@@ -7,9 +7,8 @@ use Rattle.std.proofs.lemmas.Bool.{and_parts, and_from}
 use Rattle.std.proofs.lemmas.Bool.Decides.{nat_tests}
 use Rattle.s2_hilbert.specs.Curve.{position_of}
 use Rattle.volume4d.specs.declared.slab.Slab.{Slab}
-use Rattle.volume4d.specs.Point.{Point}
-use Rattle.volume4d.specs.Slab.{slab_has}
-use Rattle.volume4d.specs.Bounds.{IsWithin, IsJoin, IsClip, overlap}
+use Rattle.volume4d.specs.Volume.{Point}
+use Rattle.volume4d.specs.Slab.{slab_has, IsWithin, IsJoin, IsClip, overlap}
 use Rattle.volume4d.proofs.lemmas.Slab.{IsIn-from_has, has-from_IsIn}
 
 -- ---- one within another

@@ -2,10 +2,9 @@
 use Rattle.std.specs.Prelude.{◌≡◌, ℕ, Bool, true, false, cond, ◌||◌, max, List, [], ◌∷◌, ◌++◌, map, Option, Some, None, refl, is_some}
 use Rattle.std.specs.List.{filter, list_any}
 use Rattle.std.proofs.Common.{sym, ap, ◌∙◌, arith}
-use Rattle.volume4d.specs.Point.{Point}
+use Rattle.volume4d.specs.Volume.{Point}
 use Rattle.volume4d.specs.declared.slab.Held.{Held}
-use Rattle.volume4d.specs.Slab.{slab_has, top_held}
-use Rattle.volume4d.specs.Level.{greater, greatest, level_where, top_by}
+use Rattle.volume4d.specs.Slab.{slab_has, top_held, greater, greatest, level_where, top_by}
 
 pub greater_none : (a : Option ℕ) → greater a None ≡ a
 greater_none None = refl

@@ -3,7 +3,7 @@ use Rattle.std.specs.Prelude.{◌↔◌, ◌<◌, ◌^◌, IsTrue}
 use Rattle.std.proofs.Common.{arith}
 use Rattle.std.proofs.lemmas.Bool.Decides.{nat_tests}
 use Rattle.s2_hilbert.specs.Grid.{GridLeaf, IsLeaf}
-use Rattle.volume4d.specs.Point.{is_leaf}
+use Rattle.volume4d.specs.Volume.{is_leaf}
 
 -- the test passes exactly for leaves
 pub leaf_test : (leaf : GridLeaf) → IsTrue (is_leaf leaf) ↔ IsLeaf leaf

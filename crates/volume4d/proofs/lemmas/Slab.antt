@@ -4,7 +4,7 @@ use Rattle.std.specs.Prelude.{int_le, int_lt}
 use Rattle.std.proofs.lemmas.Bool.{and_parts, and_from}
 use Rattle.s2_hilbert.specs.Curve.{position_of}
 use Rattle.volume4d.specs.declared.slab.Slab.{Slab}
-use Rattle.volume4d.specs.Point.{Point, is_leaf}
+use Rattle.volume4d.specs.Volume.{Point, is_leaf}
 use Rattle.volume4d.specs.Slab.{slab_has_leaf, slab_has}
 
 -- the tests that a slab makes of a point

@@ -2,9 +2,7 @@
 use Rattle.std.specs.Prelude.{◌≡◌, Bool, true, false, ◌||◌, List, [], ◌∷◌, refl}
 use Rattle.std.proofs.lemmas.Bool.{and_parts}
 use Rattle.s2_hilbert.specs.Grid.{GridLeaf}
-use Rattle.volume4d.specs.Point.{Point, is_leaf}
-use Rattle.volume4d.specs.Shape.{Shape, cells, rectangle, shape_has}
-use Rattle.volume4d.specs.Volume.{Block, block_has, area_has}
+use Rattle.volume4d.specs.Volume.{Point, is_leaf, Shape, cells, rectangle, shape_has, Block, block_has, area_has}
 
 shape_leaf : (s : Shape) (leaf : GridLeaf) → shape_has s leaf ≡ true → is_leaf leaf ≡ true
 shape_leaf (cells ids) leaf h = (and_parts (is_leaf leaf) _ h).0

@@ -1,6 +1,5 @@
 use Rattle.std.proofs.Common.{◌≡◌, string_bytes}
-use Rattle.cell_picture.specs.Frame.{sum64, pixel_height_of}
-use Rattle.cell_picture.specs.Picture.{face_text, opening_text, part_start, title_text}
+use Rattle.cell_picture.specs.Picture.{sum64, pixel_height_of, face_text, opening_text, part_start, title_text}
 use Rattle.cell_picture.specs.declared.picture.TheConstants.{LEGEND_HEIGHT, STYLE}
 use Rattle.cell_picture.proofs.PictureLemmas.{five, pushed}
 use Rattle.cell_picture.proofs.picture.picture_start.Goals as goal

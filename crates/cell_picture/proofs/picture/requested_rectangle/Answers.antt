@@ -1,6 +1,5 @@
 use Rattle.std.proofs.Common.{◌≡◌, ◌-◌}
-use Rattle.cell_picture.specs.Frame.{depth_below_top, line_width_of, product64, sum64}
-use Rattle.cell_picture.specs.Picture.{requested_rectangle_text}
+use Rattle.cell_picture.specs.Picture.{depth_below_top, line_width_of, product64, sum64, requested_rectangle_text}
 use Rattle.cell_picture.proofs.picture.requested_rectangle.Goals as goal
 
 pub returns : goal.returns

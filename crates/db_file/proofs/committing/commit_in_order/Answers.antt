@@ -1,6 +1,6 @@
 use Rattle.std.proofs.Common.{◌∙◌, subst, sym}
 use Rattle.sqlite_wal.specs.PageSize.{bytes_of}
-use Rattle.db_file.specs.Committing.{NamesSize, image_of}
+use Rattle.db_file.specs.Orders.{NamesSize, image_of}
 use Rattle.db_file.specs.declared.committing.Left.TheVariants.{Uncommitted}
 use Rattle.db_file.proofs.CommitLemmas.{left_of, uncommitted}
 use Rattle.db_file.proofs.committing.commit_in_order.Goals as goal

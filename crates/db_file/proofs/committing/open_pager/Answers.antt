@@ -4,7 +4,7 @@ use Rattle.sqlite_wal.specs.PageSize.{Names, size_in_file}
 use Rattle.sqlite_wal.specs.Reads.{AreClean}
 use Rattle.sqlite_wal.specs.Recovery.{IsIgnored}
 use Rattle.sqlite_wal.specs.declared.error.Error.TheVariants.{Corrupt, Io, OutOfMemory}
-use Rattle.db_file.specs.Committing.{IsUnread, NamesSize, faults_of, image_of, leaves}
+use Rattle.db_file.specs.Orders.{IsUnread, NamesSize, faults_of, image_of, leaves}
 use Rattle.db_file.proofs.CommitLemmas.{none_named, over_read, size_named, unread}
 use Rattle.db_file.proofs.committing.open_pager.Goals as goal
 

@@ -6,7 +6,7 @@ use Rattle.sqlite_wal.specs.PageSize.{bytes_of}
 use Rattle.sqlite_wal.specs.Recovery.{Image, IsUnreadable, RecoversAs}
 use Rattle.sqlite_wal.proofs.OutcomeLemmas.{HasCause-weaker}
 use Rattle.sqlite_pager.specs.Pager.{image, state}
-use Rattle.db_file.specs.Committing.{LeavesOrdered, RefusesFiles}
+use Rattle.db_file.specs.Orders.{LeavesOrdered, RefusesFiles}
 use Rattle.db_file.proofs.CommitLemmas.{finds_and_orders, leaves_ordered, order_fails, still_readable}
 use Rattle.db_file.proofs.committing.recover_and_reorder.Goals as goal
 

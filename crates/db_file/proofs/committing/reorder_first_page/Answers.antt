@@ -2,7 +2,7 @@ use Rattle.std.proofs.Common.{◌≡◌, ◌∙◌, IsTrue, rules, subst, sym}
 use Rattle.std.proofs.lemmas.Result.{err_from_is_err_and}
 use Rattle.sqlite_wal.proofs.StateLemmas.{StaysOrFails-trans}
 use Rattle.sqlite_pager.specs.Pager.{current, state, visible}
-use Rattle.db_file.specs.Committing.{OrdersFirst, in_order}
+use Rattle.db_file.specs.Orders.{OrdersFirst, in_order}
 use Rattle.db_file.proofs.CommitLemmas.{clean_if_open, commit_fails, on_both, order_commits, order_kept, orders_first, settled_if, write_fails}
 use Rattle.db_file.proofs.committing.reorder_first_page.Goals as goal
 

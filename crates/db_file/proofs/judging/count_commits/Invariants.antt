@@ -1,6 +1,6 @@
 use Rattle.std.proofs.Common.{◌≡◌, ◌≤◌, ℕ, ◌+◌, ◌*◌, List, length}
 use Rattle.sqlite_wal.specs.Recovery.{header}
-use Rattle.db_file.specs.Walks.{HasFrame, HasRead}
+use Rattle.db_file.specs.Wal.{HasFrame, HasRead}
 use Rattle.db_file.proofs.CountLemmas.{IsCounting}
 use Rattle.db_file.proofs.judging.count_commits.Given as goal
 

@@ -1,7 +1,8 @@
 use Rattle.std.proofs.Common.{◌≡◌, ℕ, ◌+◌, ◌*◌, List, length}
 use Rattle.sqlite_wal.specs.Recovery.{header}
-use Rattle.db_file.specs.Walks.{HasRead, IsBefore, IsFollowed}
+use Rattle.db_file.specs.Wal.{HasRead, IsBefore}
 use Rattle.db_file.proofs.judging.find_stop.Given as goal
+use Rattle.db_file.proofs.WalkLemmas.{IsFollowed}
 
 -- recovery takes the frames so far, and the next is to be read
 abbrev pub invariant-loop-stop : goal.invariant-loop-stop

@@ -2,7 +2,7 @@ use Rattle.std.proofs.Common.{◌≡◌, ◌<◌, ◌∙◌, drop, take, IfSome,
 use Rattle.std.specs.Io.KnownBytes.{Appends}
 use Rattle.sqlite_wal.specs.PageSize.{bytes_of}
 use Rattle.db_file.proofs.SumLemmas.{copies_more, copies_to_end}
-use Rattle.db_file.specs.Sums.{with_checksum}
+use Rattle.db_file.specs.Orders.{with_checksum}
 use Rattle.db_file.proofs.sums.copy_pages.Goals as goal
 
 pub loop-preserved : goal.loop-preserved

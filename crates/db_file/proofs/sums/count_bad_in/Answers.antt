@@ -1,7 +1,7 @@
 use Rattle.std.proofs.Common.{◌≡◌, ◌<◌, ◌∙◌, arith, drop, take, IfSome, Some, rules, subst}
 use Rattle.sqlite_wal.specs.PageSize.{bytes_of}
 use Rattle.db_file.proofs.SumLemmas.{counts_more, counts_to_end}
-use Rattle.db_file.specs.Sums.{bad_checksums_in_page}
+use Rattle.db_file.specs.Orders.{bad_checksums_in_page}
 use Rattle.db_file.proofs.sums.count_bad_in.Goals as goal
 
 pub loop-preserved : goal.loop-preserved

@@ -1,7 +1,7 @@
 use Rattle.std.proofs.Common.{IfErr, IfOk, subst}
 use Rattle.desk_tables.specs.Copying.{AreNotCopied}
 use Rattle.desk_admin.proofs.KeepLemmas.{refused_copy}
-use Rattle.desk_admin.specs.Stored.{IsStoredAs}
+use Rattle.desk_admin.specs.ScratchCopies.{IsStoredAs}
 use Rattle.desk_admin.proofs.keeping.close_if_copied.Goals as goal
 
 pub returns-in-Ok-clause-made : goal.returns-in-Ok-clause-made

@@ -3,7 +3,7 @@ use Rattle.sqlite_wal.specs.Files.{image_at}
 use Rattle.desk_admin.proofs.KeepLemmas.{copy_fails, made_on, named_if}
 use Rattle.host_files.proofs.lemmas.Reporting.{reports_both}
 use Rattle.host_files.proofs.lemmas.Naming.{found_own, not_free_failed, not_free_names, not_free_others}
-use Rattle.host_files.specs.FolderSteps.{steps_of}
+use Rattle.host_files.specs.Paths.{steps_of}
 use Rattle.host_files.specs.Naming.{AreNames, Follows, free_steps}
 use Rattle.desk_admin.specs.FilesReported.{FailsUntried}
 use Rattle.desk_admin.proofs.keeping.copy_database.Goals as goal

@@ -1,6 +1,6 @@
 use Rattle.std.proofs.Common.{subst}
 use Rattle.desk_cli.specs.Exits.{ending}
-use Rattle.desk_program.specs.Looking.{IsTextPrinted, copied_line}
+use Rattle.desk_program.specs.Enrolling.{IsTextPrinted, copied_line}
 use Rattle.desk_admin.proofs.keeping.copy_file.Goals as goal
 
 pub returns-in-Ok-clause-copied : goal.returns-in-Ok-clause-copied

@@ -1,6 +1,6 @@
 use Rattle.std.proofs.Common.{Err, refl, subst, sym}
-use Rattle.desk_wire.specs.Passage.{course}
-use Rattle.desk_admin.specs.Reordering.{IsOrderedIf}
+use Rattle.desk_wire.specs.Streams.{course}
+use Rattle.desk_admin.specs.ScratchCopies.{IsOrderedIf}
 use Rattle.desk_admin.proofs.reordering.reorder_if_valid.Goals as goal
 
 pub returns-in-Ok-clause-ordered : goal.returns-in-Ok-clause-ordered

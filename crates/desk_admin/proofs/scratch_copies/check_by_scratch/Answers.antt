@@ -1,6 +1,6 @@
 use Rattle.std.proofs.Common.{subst}
 use Rattle.sqlite_wal.specs.Files.{image_at}
-use Rattle.desk_wire.specs.Passage.{course}
+use Rattle.desk_wire.specs.Streams.{course}
 use Rattle.desk_cli.specs.Exits.{ending}
 use Rattle.desk_admin.specs.ScratchCopies.{IsJudged}
 use Rattle.desk_admin.proofs.scratch_copies.check_by_scratch.Goals as goal

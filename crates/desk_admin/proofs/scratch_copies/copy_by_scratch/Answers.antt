@@ -1,10 +1,10 @@
 use Rattle.std.proofs.Common.{◌≡◌, ap, rules, string_bytes, subst}
 use Rattle.sqlite_wal.specs.Files.{image_at}
-use Rattle.desk_wire.specs.Passage.{course}
+use Rattle.desk_wire.specs.Streams.{course}
 use Rattle.desk_cli.specs.Lines.{file_of}
 use Rattle.host_files.specs.Naming.{Follows}
-use Rattle.host_files.specs.FolderSteps.{steps_of}
-use Rattle.desk_host.specs.Scratch.{AreScratchPaths, make_steps, scratch_of}
+use Rattle.host_files.specs.Paths.{steps_of}
+use Rattle.desk_host.specs.FoundLogs.{AreScratchPaths, make_steps, scratch_of}
 use Rattle.desk_admin.specs.ScratchCopies.{IsTestReported}
 use Rattle.desk_admin.proofs.ScratchLemmas.{copied_from}
 use Rattle.desk_admin.proofs.scratch_copies.copy_by_scratch.Goals as goal

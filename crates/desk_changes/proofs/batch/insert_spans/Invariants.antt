@@ -1,8 +1,7 @@
 use Rattle.std.proofs.Common.{◌≡◌, map, take}
 use Rattle.sqlite.specs.State.{HasCleanDisk}
 use Rattle.sqlite.specs.Held.{state}
-use Rattle.desk_changes.specs.Batches.{span_row_in, AddsSpans}
-use Rattle.desk_changes.specs.Putting.{TakesRoom}
+use Rattle.desk_changes.specs.RowChanges.{span_row_in, AddsSpans, TakesRoom}
 use Rattle.desk_changes.proofs.BatchLemmas.{HasAdded}
 use Rattle.desk_changes.proofs.batch.insert_spans.Given as goal
 

@@ -2,9 +2,8 @@ use Rattle.std.proofs.Common.{◌≡◌, refl, map, take, length, subst, ◌∙�
 use Rattle.std.proofs.lemmas.List.{map_more, take_all}
 use Rattle.sqlite.specs.State.{HasCleanDisk}
 use Rattle.sqlite.specs.Held.{state}
-use Rattle.desk_changes.specs.Batches.{volume_row_in, cover_of, AddsVolumes}
-use Rattle.desk_changes.specs.Putting.{AreNewVolumes, TakesRoom}
-use Rattle.desk_sql.specs.Refusals.{IsRefusal}
+use Rattle.desk_changes.specs.RowChanges.{volume_row_in, cover_of, AddsVolumes, AreNewVolumes, TakesRoom}
+use Rattle.desk_sql.specs.Statements.{IsRefusal}
 use Rattle.desk_changes.proofs.BatchLemmas.{begins, goes_on, no_volumes, more_volumes, refused_on, way_on, all_changed, refused_changed, HasAdded}
 use Rattle.desk_changes.proofs.NewRows.{takes_none, takes_both, volume_fits}
 use Rattle.desk_changes.proofs.batch.insert_volumes.Goals as goal

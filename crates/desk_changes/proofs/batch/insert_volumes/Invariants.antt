@@ -1,8 +1,7 @@
 use Rattle.std.proofs.Common.{◌≡◌, map, take}
 use Rattle.sqlite.specs.State.{HasCleanDisk}
 use Rattle.sqlite.specs.Held.{state}
-use Rattle.desk_changes.specs.Batches.{volume_row_in, cover_of, AddsVolumes}
-use Rattle.desk_changes.specs.Putting.{TakesRoom}
+use Rattle.desk_changes.specs.RowChanges.{volume_row_in, cover_of, AddsVolumes, TakesRoom}
 use Rattle.desk_changes.proofs.BatchLemmas.{HasAdded}
 use Rattle.desk_changes.proofs.batch.insert_volumes.Given as goal
 

@@ -4,9 +4,8 @@ use Rattle.sqlite.specs.Held.{state}
 use Rattle.std.specs.String.{string_bytes}
 use Rattle.std.proofs.lemmas.List.{map_more}
 use Rattle.desk_sql.specs.Rows.{RemovesPlan}
-use Rattle.desk_changes.specs.Batches.{RemovesPlans}
-use Rattle.desk_sql.specs.Refusals.{IsRefusal}
-use Rattle.desk_changes.specs.RowChanges.{key_row}
+use Rattle.desk_changes.specs.RowChanges.{RemovesPlans, key_row}
+use Rattle.desk_sql.specs.Statements.{IsRefusal}
 use Rattle.desk_sql.proofs.lemmas.Stop.{refused_unprepared}
 use Rattle.desk_changes.proofs.BatchLemmas.{begins_prepared, goes_on, keeps_unprepared, refused_on, way_on}
 use Rattle.desk_changes.proofs.ClearLemmas.{none_removed, one_removed}

@@ -1,6 +1,6 @@
 use Rattle.std.proofs.Common.{◌≡◌, map, take}
 use Rattle.std.specs.String.{string_bytes}
-use Rattle.desk_changes.specs.Batches.{RemovesPlans}
+use Rattle.desk_changes.specs.RowChanges.{RemovesPlans}
 use Rattle.desk_changes.proofs.BatchLemmas.{HasAdded}
 use Rattle.desk_changes.proofs.batch.remove_plans.Given as goal
 

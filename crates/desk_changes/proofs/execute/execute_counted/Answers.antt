@@ -2,12 +2,10 @@ use Rattle.std.proofs.Common.{arith, rules}
 use Rattle.sqlite.specs.Values.{bound}
 use Rattle.sqlite.specs.State.{HasCleanDisk}
 use Rattle.sqlite.specs.Held.{state}
-use Rattle.desk_changes.specs.RowChanges.{changes, counts, fits, takes}
+use Rattle.desk_changes.specs.RowChanges.{changes, counts, fits, takes, TextCounts, TextTakes}
 use Rattle.desk_sql.specs.Effects.{IsUnderWay}
 use Rattle.desk_sql.specs.Changing.{IsSureChange}
-use Rattle.desk_changes.specs.Putting.{TextCounts, TextTakes}
-use Rattle.desk_sql.specs.Statements.{Changes}
-use Rattle.desk_sql.specs.Refusals.{IsRefusal}
+use Rattle.desk_sql.specs.Statements.{Changes, IsRefusal}
 use Rattle.desk_sql.proofs.lemmas.Stop.{refused_change}
 use Rattle.desk_sql.proofs.lemmas.Write.{makes, changed}
 use Rattle.desk_changes.proofs.RoomTexts.{counted_so, took}

@@ -3,7 +3,7 @@ use Rattle.std.proofs.lemmas.Result.{on_ok_weaker}
 use Rattle.std.specs.String.{string_bytes}
 use Rattle.sqlite.specs.State.{HasCleanDisk}
 use Rattle.sqlite.specs.Held.{state}
-use Rattle.desk_changes.specs.Batches.{RemovesPlans}
+use Rattle.desk_changes.specs.RowChanges.{RemovesPlans}
 use Rattle.desk_sql.specs.Effects.{Commits, MayMake}
 use Rattle.desk_sql.proofs.lemmas.Leaving.{may_make, committed}
 use Rattle.desk_changes.proofs.transactions.clear_plans.Goals as goal

@@ -1,10 +1,8 @@
 use Rattle.std.proofs.Common.{arith, length, map, rules}
 use Rattle.sqlite.specs.State.{HasCleanDisk}
 use Rattle.sqlite.specs.Held.{state}
-use Rattle.desk_changes.specs.Batches.{cover_of, span_row_in, volume_row_in}
+use Rattle.desk_changes.specs.RowChanges.{cover_of, span_row_in, volume_row_in, plan_put, AreNewSpans, AreNewVolumes, IsPuttable, TakesRoom}
 use Rattle.desk_sql.specs.Effects.{Makes}
-use Rattle.desk_changes.specs.RowChanges.{plan_put}
-use Rattle.desk_changes.specs.Putting.{AreNewSpans, AreNewVolumes, IsPuttable, TakesRoom}
 use Rattle.desk_sql.specs.Rows.{RemovesPlan}
 use Rattle.desk_changes.proofs.PutSteps.{before, plan_in_turn, spans_in_turn, volumes_in_turn}
 use Rattle.desk_changes.proofs.transactions.put_plan.Goals as goal

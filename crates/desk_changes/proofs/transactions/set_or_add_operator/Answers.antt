@@ -3,7 +3,7 @@ use Rattle.sqlite.specs.State.{HasCleanDisk}
 use Rattle.sqlite.specs.Held.{state}
 use Rattle.desk_sql.specs.Rows.{PutsOperator, SetsOperators, is_row_by, operator_row}
 use Rattle.desk_sql.specs.Changing.{HasRowids, IsShort}
-use Rattle.desk_sql.specs.Refusals.{IsRefusal}
+use Rattle.desk_sql.specs.Statements.{IsRefusal}
 use Rattle.desk_changes.proofs.BatchLemmas.{HasAdded, all_changed, refused_changed, refused_on, way_on}
 use Rattle.desk_changes.proofs.EnrolLemmas.{fits_unlisted, puts_added, puts_set}
 use Rattle.desk_sql.proofs.lemmas.Leaving.{remembers_then}

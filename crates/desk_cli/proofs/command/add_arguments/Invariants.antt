@@ -1,6 +1,6 @@
 use Rattle.std.proofs.Common.{◌≡◌, map, take}
 use Rattle.clap.specs.Simple.{shape_of}
-use Rattle.desk_cli.specs.Forms.{rule_of_row}
+use Rattle.desk_cli.specs.Malformed.{rule_of_row}
 use Rattle.desk_cli.specs.Grammar.{line_shape}
 use Rattle.desk_cli.proofs.command.add_arguments.Given as goal
 

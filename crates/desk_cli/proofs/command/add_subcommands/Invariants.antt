@@ -1,6 +1,6 @@
 use Rattle.std.proofs.Common.{◌≡◌, map, take}
 use Rattle.clap.specs.Simple.{app_of}
-use Rattle.desk_cli.specs.Forms.{shape_of_form}
+use Rattle.desk_cli.specs.Malformed.{shape_of_form}
 use Rattle.desk_cli.specs.Grammar as spec
 use Rattle.desk_cli.proofs.command.add_subcommands.Given as goal
 

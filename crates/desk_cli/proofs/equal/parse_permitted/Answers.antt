@@ -1,6 +1,6 @@
 use Rattle.std.proofs.Common.{◌∙◌, ap, map}
-use Rattle.desk_rules.specs.Permission.{permitted_in}
-use Rattle.desk_cli.specs.Equal.{priority_in}
+use Rattle.desk_rules.specs.Limits.{permitted_in}
+use Rattle.desk_cli.specs.Grammar.{priority_in}
 use Rattle.desk_cli.proofs.LackLemmas.{not_permitted}
 use Rattle.desk_cli.proofs.equal.parse_permitted.Goals as goal
 

@@ -1,6 +1,6 @@
 use Rattle.std.proofs.Common.{◌∙◌, ap, arith, map, sym}
 use Rattle.std.proofs.lemmas.List.{take_all}
-use Rattle.desk_cli.specs.Equal.{priority_in}
+use Rattle.desk_cli.specs.Grammar.{priority_in}
 use Rattle.desk_cli.proofs.EqualLemmas.{by_texts}
 use Rattle.desk_cli.proofs.LackLemmas.{all_read}
 use Rattle.desk_cli.proofs.equal.parse_priorities.Goals as goal

@@ -1,5 +1,5 @@
 use Rattle.std.proofs.Common.{◌≡◌, Some, map, take}
-use Rattle.desk_cli.specs.Equal.{priority_in}
+use Rattle.desk_cli.specs.Grammar.{priority_in}
 use Rattle.desk_cli.proofs.equal.parse_priorities.Given as goal
 
 -- the priorities so far

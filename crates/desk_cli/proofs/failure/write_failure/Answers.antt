@@ -1,8 +1,7 @@
 use Rattle.std.proofs.Common.{codes, ◌++◌, ◌∙◌, ◌≡◌, subst}
 use Rattle.std.proofs.lemmas.Result.{IfErr-weaker}
 use Rattle.std.specs.Io.KnownBytes.{Appends}
-use Rattle.desk_cli.specs.Exits.{failure_word}
-use Rattle.desk_cli.specs.Written.{IsPartlyWritten}
+use Rattle.desk_cli.specs.Exits.{failure_word, IsPartlyWritten}
 use Rattle.desk_cli.proofs.WrittenLemmas.{begun_first, begun_next, begun_part, if_err}
 use Rattle.desk_cli.proofs.failure.write_failure.Goals as goal
 

@@ -1,6 +1,5 @@
 use Rattle.std.proofs.Common.{subst}
-use Rattle.desk_cli.specs.Equal.{ArePermittedBy}
-use Rattle.desk_cli.specs.Grammar.{RefusesOnlyWithout}
+use Rattle.desk_cli.specs.Grammar.{ArePermittedBy, RefusesOnlyWithout}
 use Rattle.desk_cli.proofs.line.read_permitted.Goals as goal
 
 pub returns-clause-refused : goal.returns-clause-refused

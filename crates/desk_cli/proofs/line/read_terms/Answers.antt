@@ -1,8 +1,7 @@
 use Rattle.std.proofs.Common.{codes}
 use Rattle.clap.specs.Matches.{found_of}
 use Rattle.clap.specs.Walk.{first_of, rows_of}
-use Rattle.desk_cli.specs.Equal.{ArePermittedBy}
-use Rattle.desk_cli.specs.Grammar.{AreTermsOf}
+use Rattle.desk_cli.specs.Grammar.{ArePermittedBy, AreTermsOf}
 use Rattle.desk_cli.proofs.LackLemmas.{lacks_part}
 use Rattle.desk_cli.proofs.line.read_terms.Goals as goal
 

@@ -1,5 +1,5 @@
 use Rattle.std.proofs.Common.{◌≡◌, ◌++◌, drop, string_bytes}
-use Rattle.desk_cli.specs.Printing.{token_lines}
+use Rattle.desk_cli.specs.Exits.{token_lines}
 use Rattle.desk_cli.proofs.printed.tokens_text.Given as goal
 
 -- the tokens of the others are still to come

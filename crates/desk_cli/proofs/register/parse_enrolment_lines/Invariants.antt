@@ -1,6 +1,6 @@
 use Rattle.std.proofs.Common.{◌≡◌, map, take}
 use Rattle.desk_cli.specs.Lines.{AreEnrolments}
-use Rattle.desk_cli.specs.Register.{parse_enrolment_lines}
+use Rattle.desk_cli.specs.Malformed.{parse_enrolment_lines}
 use Rattle.desk_cli.proofs.register.parse_enrolment_lines.Given as goal
 
 abbrev pub invariant-loop-line : goal.invariant-loop-line

@@ -1,4 +1,4 @@
-use Rattle.desk_store.specs.StoreFaults.{IsHonest}
+use Rattle.desk_store.specs.Changes.{IsHonest}
 use Rattle.desk_store.proofs.lemmas.Fault.{was_honest}
 use Rattle.desk_examples.proofs.DeskLemmas.{listed_after}
 use Rattle.desk_examples.proofs.desks.plan_and_list.Goals as goal

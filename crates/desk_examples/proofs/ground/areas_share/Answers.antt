@@ -1,5 +1,5 @@
 use Rattle.std.proofs.Common.{◌↔◌, IsTrue, subst, sym}
-use Rattle.desk_rules.specs.Sharing.{HaveAPoint}
+use Rattle.desk_rules.specs.Conflict.{HaveAPoint}
 use Rattle.desk_examples.proofs.ground.areas_share.Goals as goal
 
 pub returns : goal.returns

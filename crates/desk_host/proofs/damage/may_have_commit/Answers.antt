@@ -1,7 +1,7 @@
 use Rattle.std.proofs.Common.{inl, inr, ◌∙◌, arith, sym}
 use Rattle.std.proofs.lemmas.Bool.{true≢false}
 use Rattle.std.proofs.lemmas.Bool.Decides.{leb_tells}
-use Rattle.db_file.specs.Commits.{least_with_commit}
+use Rattle.db_file.specs.Wal.{least_with_commit}
 use Rattle.desk_host.proofs.damage.may_have_commit.Goals as goal
 
 pub returns-clause-none : goal.returns-clause-none

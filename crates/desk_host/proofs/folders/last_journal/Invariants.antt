@@ -1,5 +1,5 @@
 use Rattle.std.specs.Prelude.{IfSome}
-use Rattle.desk_host.specs.Journals.{IsJournalIn}
+use Rattle.desk_host.specs.Operators.{IsJournalIn}
 use Rattle.desk_host.proofs.folders.last_journal.Given as goal
 
 -- the greatest number so far is that of a journal of the folder

@@ -1,6 +1,6 @@
 use Rattle.std.proofs.Common.{◌≡◌, ◌∙◌, rules, string_bytes}
 use Rattle.desk_host.proofs.ScratchLemmas.{both_removed}
-use Rattle.desk_host.specs.Scratch.{scratch_of}
+use Rattle.desk_host.specs.FoundLogs.{scratch_of}
 use Rattle.desk_host.proofs.scratch.remove_scratch.Goals as goal
 
 pub returns : goal.returns

@@ -1,6 +1,6 @@
 use Rattle.std.proofs.Common.{IsSome, subst, sym}
-use Rattle.desk_store.specs.StoreFaults.{IsHonest}
-use Rattle.desk_wire.specs.Passage.{course}
+use Rattle.desk_store.specs.Changes.{IsHonest}
+use Rattle.desk_wire.specs.Streams.{course}
 use Rattle.desk_wire.specs.Playing.{max_answered}
 use Rattle.desk_program.proofs.PortGivenLemmas.{listening_turns, port_alike, port_quiet, port_turns}
 use Rattle.desk_program.proofs.laws.port_given.Goals as goal

@@ -1,5 +1,5 @@
 use Rattle.std.proofs.Common.{◌∙◌, Err, Some, ap, arith, inr, refl, rules}
-use Rattle.desk_run.specs.DeskWorld.{world_of}
+use Rattle.desk_run.specs.Verdicts.{world_of}
 use Rattle.desk_cli.specs.Exits.{ending}
 use Rattle.desk_program.proofs.EndLemmas.{broken_down, found_enrolled}
 use Rattle.desk_program.proofs.CauseLemmas.{ends_counted, ends_memory, ends_well, ends_write}

@@ -1,8 +1,8 @@
 use Rattle.std.proofs.Common.{◌∙◌, ◌++◌, ◌∷◌, [], ap, inl, sym, arith, take}
 use Rattle.std.proofs.lemmas.List.{take_more}
-use Rattle.desk_store.specs.StoreFaults.{IsHonest}
+use Rattle.desk_store.specs.Changes.{IsHonest}
 use Rattle.desk_store.proofs.lemmas.Fault.{was_honest}
-use Rattle.desk_run.specs.DeskWorld.{enrolled, world_of}
+use Rattle.desk_run.specs.Verdicts.{enrolled, world_of}
 use Rattle.desk_program.specs.Enrolling.{with_operators}
 use Rattle.desk_program.proofs.EnrolLemmas.{counted_since, listed_err, one_more}
 use Rattle.desk_program.proofs.KeepingLemmas.{finds_err, finds_ok, found_so_far}

@@ -1,6 +1,6 @@
 use Rattle.std.proofs.Common.{◌≡◌, ◌≤◌, take}
-use Rattle.desk_store.specs.StoreFaults.{IsHonest}
-use Rattle.desk_run.specs.DeskWorld.{IsSettledOrSame, world_of}
+use Rattle.desk_store.specs.Changes.{IsHonest}
+use Rattle.desk_run.specs.Verdicts.{IsSettledOrSame, world_of}
 use Rattle.desk_program.specs.Enrolling.{with_operators}
 use Rattle.desk_program.proofs.program.enrol_all.Given as goal
 

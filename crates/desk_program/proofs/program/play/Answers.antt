@@ -1,8 +1,8 @@
 use Rattle.std.proofs.Common.{ap, ◌∙◌, inl, inr, subst}
-use Rattle.desk_store.specs.StoreFaults.{IsHonest}
+use Rattle.desk_store.specs.Changes.{IsHonest}
 use Rattle.desk_store.proofs.lemmas.Fault.{was_honest}
-use Rattle.desk_run.specs.DeskWorld.{world_of}
-use Rattle.desk_wire.specs.Passage.{passage}
+use Rattle.desk_run.specs.Verdicts.{world_of}
+use Rattle.desk_wire.specs.Streams.{passage}
 use Rattle.desk_wire.specs.Playing.{HasPlayed}
 use Rattle.desk_cli.specs.Exits.{EndsWith, ending}
 use Rattle.desk_program.specs.Enrolling.{AreEnrolledSoFar, on_terms, with_operators}

@@ -1,7 +1,7 @@
 use Rattle.std.proofs.Common.{Option, subst}
 use Rattle.desk_store.specs.World.{World}
-use Rattle.desk_store.specs.StoreFaults.{IsHonest}
-use Rattle.desk_run.specs.DeskWorld.{IsSettled, world_of}
+use Rattle.desk_store.specs.Changes.{IsHonest}
+use Rattle.desk_run.specs.Verdicts.{IsSettled, world_of}
 use Rattle.desk_program.specs.Enrolling.{HasEnrolled}
 use Rattle.desk_program.specs.Keeping.{FindsEnrolments}
 use Rattle.desk_program.proofs.KeepingLemmas.{settled_news}

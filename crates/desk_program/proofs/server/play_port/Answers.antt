@@ -1,6 +1,6 @@
 use Rattle.std.proofs.Common.{◌∙◌, ap, inl}
 use Rattle.desk_store.proofs.lemmas.Fault.{was_honest}
-use Rattle.desk_run.specs.DeskWorld.{world_of}
+use Rattle.desk_run.specs.Verdicts.{world_of}
 use Rattle.desk_program.specs.Enrolling.{on_terms, with_operators}
 use Rattle.desk_program.proofs.CauseLemmas.{counted_later}
 use Rattle.desk_program.proofs.KeepingLemmas.{found_served}

@@ -1,11 +1,10 @@
 use Rattle.std.proofs.Common.{◌≡◌, ◌≢◌, ◌∙◌, ◌∷◌, [], IfSome, None, Some, inl, inr, refl, sym, subst}
-use Rattle.desk_store.specs.StoreFaults.{IsHonest}
+use Rattle.desk_store.specs.Changes.{IsHonest}
 use Rattle.desk_store.proofs.lemmas.Fault.{was_honest}
-use Rattle.desk_run.specs.DeskWorld.{world_of}
+use Rattle.desk_run.specs.Verdicts.{world_of}
 use Rattle.desk_cli.specs.Exits.{enrolment_failure, failure_at}
-use Rattle.desk_program.specs.Enrolling.{AreEnrolled, AreEnrolledSoFar}
+use Rattle.desk_program.specs.Enrolling.{AreEnrolled, AreEnrolledSoFar, IsOpen}
 use Rattle.desk_program.specs.Keeping.{FindsNewEnrolments}
-use Rattle.desk_program.specs.Recorded.{IsOpen}
 use Rattle.desk_program.specs.Serving.{Grows, arrived, parted}
 use Rattle.desk_program.proofs.CauseLemmas.{denied_counted, news_counted, served_counted}
 use Rattle.desk_program.proofs.EndLemmas.{reported_breakdown}

@@ -1,9 +1,9 @@
 use Rattle.std.proofs.Common.{◌≡◌, ◌+◌, None, Ok, arith, refl, subst}
 use Rattle.std.specs.Prelude.{OnOk}
 use Rattle.std.proofs.lemmas.List.Elements.{All-nil}
-use Rattle.desk_store.specs.StoreFaults.{IsHonest}
+use Rattle.desk_store.specs.Changes.{IsHonest}
 use Rattle.desk_store.proofs.lemmas.Fault.{was_honest}
-use Rattle.desk_wire.specs.Passage.{course}
+use Rattle.desk_wire.specs.Streams.{course}
 use Rattle.desk_cli.specs.Exits.{failure_at}
 use Rattle.desk_program.specs.Keeping.{AreKept}
 use Rattle.desk_program.proofs.CauseLemmas.{counted_on}

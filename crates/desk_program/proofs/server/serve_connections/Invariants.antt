@@ -1,5 +1,5 @@
 use Rattle.std.proofs.Common.{◌≤◌, Ok}
-use Rattle.desk_wire.specs.Passage.{course}
+use Rattle.desk_wire.specs.Streams.{course}
 use Rattle.desk_program.specs.Keeping.{AreKept}
 use Rattle.desk_program.proofs.server.serve_connections.Given as goal
 

@@ -1,7 +1,7 @@
 use Rattle.std.proofs.Common.{◌∙◌, ap, inl}
-use Rattle.desk_store.specs.StoreFaults.{IsHonest}
+use Rattle.desk_store.specs.Changes.{IsHonest}
 use Rattle.desk_store.proofs.lemmas.Fault.{was_honest}
-use Rattle.desk_run.specs.DeskWorld.{world_of}
+use Rattle.desk_run.specs.Verdicts.{world_of}
 use Rattle.desk_program.specs.Enrolling.{on_terms, with_operators}
 use Rattle.desk_program.proofs.KeepingLemmas.{port_kept, unserved_kept}
 use Rattle.desk_program.proofs.ServedLemmas.{still_heard, unserved}

@@ -1,5 +1,5 @@
 use Rattle.std.proofs.Common.{◌≡◌, drop}
-use Rattle.desk_record.specs.EntryLines.{number_from}
+use Rattle.desk_record.specs.Record.{number_from}
 use Rattle.desk_record.proofs.numbers.parse_number.Given as goal
 
 -- the digits that are left give the number

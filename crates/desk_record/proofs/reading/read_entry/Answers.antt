@@ -1,7 +1,6 @@
 use Rattle.std.proofs.Common.{◌≡◌, arith, length, ap, sym, ◌∙◌}
 use Rattle.std.specs.Option.{option_map}
-use Rattle.desk_record.specs.Reading.{are_bytes_intact}
-use Rattle.desk_record.specs.EntryLines.{parsed_line, line_parts}
+use Rattle.desk_record.specs.Record.{are_bytes_intact, parsed_line, line_parts}
 use Rattle.desk_record.proofs.ReadLemmas.{lacks_bytes, none_there, not_line, some_there, sound, unsound}
 use Rattle.desk_record.proofs.reading.read_entry.Goals as goal
 

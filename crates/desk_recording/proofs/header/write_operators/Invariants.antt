@@ -1,6 +1,6 @@
 use Rattle.std.proofs.Common.{◌≡◌, ◌++◌, map, drop}
 use Rattle.desk_record.specs.Record.{entries}
-use Rattle.desk_program.specs.Recorded.{operator_entry}
+use Rattle.desk_program.specs.Enrolling.{operator_entry}
 use Rattle.desk_recording.proofs.header.write_operators.Given as goal
 
 -- the text, with the entries of the operators that are left, has those of all

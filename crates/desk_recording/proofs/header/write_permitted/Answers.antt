@@ -1,6 +1,6 @@
 use Rattle.std.proofs.Common.{◌≡◌, ◌++◌, arith, subst}
 use Rattle.desk_record.specs.Record.{entries}
-use Rattle.desk_recording.specs.Beginning.{permitted_below}
+use Rattle.desk_recording.specs.RecordWrites.{permitted_below}
 use Rattle.desk_recording.proofs.BeginningLemmas.{none_permitted, one_permitted}
 use Rattle.desk_recording.proofs.header.write_permitted.Goals as goal
 

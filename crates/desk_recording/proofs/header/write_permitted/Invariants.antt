@@ -1,6 +1,6 @@
 use Rattle.std.proofs.Common.{◌≡◌, ◌++◌}
 use Rattle.desk_record.specs.Record.{entries}
-use Rattle.desk_recording.specs.Beginning.{permitted_below}
+use Rattle.desk_recording.specs.RecordWrites.{permitted_below}
 use Rattle.desk_recording.proofs.header.write_permitted.Given as goal
 
 -- the text has the entries of those below

@@ -1,4 +1,4 @@
-use Rattle.desk_store.specs.StoreFaults.{IsHonest}
+use Rattle.desk_store.specs.Changes.{IsHonest}
 use Rattle.desk_recording.proofs.RecordLemmas.{taken_added}
 use Rattle.desk_recording.proofs.laws.recorded.Goals as goal
 

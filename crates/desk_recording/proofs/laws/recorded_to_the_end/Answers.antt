@@ -1,4 +1,4 @@
-use Rattle.desk_store.specs.StoreFaults.{IsHonest}
+use Rattle.desk_store.specs.Changes.{IsHonest}
 use Rattle.desk_recording.proofs.EndLemmas.{taken_end}
 use Rattle.desk_recording.proofs.laws.recorded_to_the_end.Goals as goal
 

@@ -1,6 +1,6 @@
 use Rattle.std.proofs.Common.{◌≡◌, ◌++◌, map, drop}
 use Rattle.desk_record.specs.Record.{entries}
-use Rattle.desk_program.specs.Recorded.{AreNamed, operator_entry}
+use Rattle.desk_program.specs.Enrolling.{AreNamed, operator_entry}
 use Rattle.desk_recording.proofs.written.enrolment_entries.Given as goal
 
 -- the text, with the entries of the operators that are left, is that of all; and if their names are those of

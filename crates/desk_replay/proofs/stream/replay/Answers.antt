@@ -1,6 +1,6 @@
 use Rattle.std.proofs.Common.{sym, subst, arith}
 use Rattle.desk_store.proofs.lemmas.Fault.{was_honest}
-use Rattle.desk_run.specs.DeskWorld.{world_of}
+use Rattle.desk_run.specs.Verdicts.{world_of}
 use Rattle.desk_replay.specs.Running.{AreEntriesPlayed}
 use Rattle.desk_replay.proofs.RunLemmas.{no_more, none_played, one_more}
 use Rattle.desk_replay.proofs.stream.replay.Goals as goal

@@ -1,7 +1,7 @@
 use Rattle.std.proofs.Common.{◌≤◌}
-use Rattle.desk_store.specs.StoreFaults.{IsHonest}
-use Rattle.desk_run.specs.DeskWorld.{world_of}
-use Rattle.desk_wire.specs.Passage.{course}
+use Rattle.desk_store.specs.Changes.{IsHonest}
+use Rattle.desk_run.specs.Verdicts.{world_of}
+use Rattle.desk_wire.specs.Streams.{course}
 use Rattle.desk_replay.specs.Replaying.{progress_state}
 use Rattle.desk_replay.specs.Running.{AreEntriesPlayed}
 use Rattle.desk_replay.proofs.stream.replay.Given as goal

@@ -5,7 +5,7 @@ use Rattle.desk_rules.specs.Limits.{max_priority}
 use Rattle.desk_store.proofs.lemmas.Fault.{was_honest}
 use Rattle.desk_store.proofs.lemmas.World.{ceiling_within}
 use Rattle.desk_run.proofs.CallLemmas.{unlisted_is, status_ready, prepares_from, list_readies, show_readies, put_readies, delete_readies, clear_readies}
-use Rattle.desk_run.specs.DeskWorld.{with_content}
+use Rattle.desk_run.specs.Verdicts.{with_content}
 use Rattle.desk_run.proofs.pending.prepare_over.Goals as goal
 
 pub prepare_put-requires-clause-low : goal.prepare_put-requires-clause-low

@@ -1,5 +1,5 @@
 use Rattle.std.proofs.Common.{◌≡◌, map, take}
-use Rattle.desk_run.specs.Runs.{as_reported}
+use Rattle.desk_run.specs.Calls.{as_reported}
 use Rattle.desk_run.proofs.run.copies.Given as goal
 
 -- the outcomes so far

@@ -2,12 +2,10 @@ use Rattle.std.proofs.Common.{◌≤◌, ◌+◌, ◌∙◌, ◌∷◌, [], sym,
 use Rattle.std.proofs.lemmas.Int.{to_z-of_z}
 use Rattle.std.proofs.lemmas.List.{length-append}
 use Rattle.std.proofs.lemmas.Result.{on_ok_weaker}
-use Rattle.desk_store.specs.Crashes.{LeavesOldOr}
+use Rattle.desk_store.specs.World.{LeavesOldOr}
 use Rattle.desk_store.proofs.lemmas.Fault.{was_honest}
-use Rattle.desk_run.specs.Calls.{ReportsReply}
-use Rattle.desk_run.specs.Verdicts.{step}
-use Rattle.desk_run.specs.DeskFrames.{Leaves, fault_in}
-use Rattle.desk_run.specs.DeskWorld.{world_of}
+use Rattle.desk_run.specs.Calls.{ReportsReply, Leaves, fault_in}
+use Rattle.desk_run.specs.Verdicts.{step, world_of}
 use Rattle.desk_run.proofs.lemmas.Crash.{risen_since}
 use Rattle.desk_run.proofs.RunLemmas.{AreAnswered, one_answered, answered_is, found_next, same_on_err, settled_next, stopped_by}
 use Rattle.desk_run.proofs.run.run_over.Goals as goal

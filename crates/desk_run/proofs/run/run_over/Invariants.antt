@@ -1,6 +1,6 @@
 use Rattle.std.proofs.Common.{◌≡◌, ◌≤◌, length}
-use Rattle.desk_store.specs.StoreFaults.{IsHonest}
-use Rattle.desk_run.specs.DeskWorld.{IsSettled, world_of}
+use Rattle.desk_store.specs.Changes.{IsHonest}
+use Rattle.desk_run.specs.Verdicts.{IsSettled, world_of}
 use Rattle.desk_run.proofs.RunLemmas.{AreAnswered}
 use Rattle.desk_run.proofs.run.run_over.Given as goal
 

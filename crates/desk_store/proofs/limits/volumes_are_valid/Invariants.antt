@@ -1,6 +1,6 @@
 use Rattle.std.proofs.Common.{take}
 use Rattle.std.specs.List.{AllByRecursion}
-use Rattle.desk_store.specs.Content.{IsValidVolume}
+use Rattle.desk_store.specs.World.{IsValidVolume}
 use Rattle.desk_store.proofs.limits.volumes_are_valid.Given as goal
 
 -- the volumes so far

@@ -1,6 +1,5 @@
 use Rattle.std.proofs.Common.{◌≡◌, ◌+◌, length}
-use Rattle.desk_store.specs.World.{rows_by}
-use Rattle.desk_store.specs.Listing.{filed_all}
+use Rattle.desk_store.specs.World.{rows_by, filed_all}
 use Rattle.desk_store.proofs.list.count_of.Given as goal
 
 -- those counted and those that are left are all

@@ -1,6 +1,6 @@
 use Rattle.std.proofs.Common.{◌∙◌, ap, Some}
 use Rattle.std.specs.Option.{option_map}
-use Rattle.desk_store.specs.Parts.{row_of}
+use Rattle.desk_store.specs.World.{row_of}
 use Rattle.desk_store.proofs.StoreLemmas.{plan_found}
 use Rattle.desk_store.proofs.list.find_plan.Goals as goal
 

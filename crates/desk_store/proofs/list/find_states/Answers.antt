@@ -1,6 +1,6 @@
 use Rattle.std.proofs.Common.{◌∙◌, ap, Some}
 use Rattle.std.specs.Option.{option_map}
-use Rattle.desk_store.specs.Parts.{kept_states}
+use Rattle.desk_store.specs.World.{kept_states}
 use Rattle.desk_store.proofs.StoreLemmas.{states_found}
 use Rattle.desk_store.proofs.list.find_states.Goals as goal
 

@@ -1,8 +1,6 @@
 use Rattle.std.proofs.Common.{◌≡◌, ◌∷◌, ◌∙◌, ap, sym}
-use Rattle.volume4d.specs.Slab.{top_held}
-use Rattle.volume4d.specs.Level.{greater}
-use Rattle.desk_store.specs.OwnRows.{others_top}
-use Rattle.desk_store.specs.Listing.{filed_of, filed_all}
+use Rattle.volume4d.specs.Slab.{top_held, greater}
+use Rattle.desk_store.specs.World.{others_top, filed_of, filed_all}
 use Rattle.desk_store.proofs.RivalLemmas.{rivals_begin, others_end, other_added}
 use Rattle.desk_store.proofs.list.others_of.Goals as goal
 

@@ -1,9 +1,7 @@
 use Rattle.std.proofs.Common.{◌≡◌}
-use Rattle.volume4d.specs.Point.{Point}
-use Rattle.volume4d.specs.Slab.{top_held}
-use Rattle.volume4d.specs.Level.{greater}
-use Rattle.desk_store.specs.OwnRows.{others_top}
-use Rattle.desk_store.specs.Listing.{filed_all}
+use Rattle.volume4d.specs.Volume.{Point}
+use Rattle.volume4d.specs.Slab.{top_held, greater}
+use Rattle.desk_store.specs.World.{others_top, filed_all}
 use Rattle.desk_store.proofs.list.others_of.Given as goal
 
 -- the levels so far and those of the plans that are left are the levels of all

@@ -1,8 +1,7 @@
 use Rattle.std.proofs.Common.{sym, ◌∙◌, ap}
 use Rattle.std.proofs.lemmas.Result.{on_ok_weaker}
-use Rattle.volume4d.specs.Slab.{top_held}
-use Rattle.volume4d.specs.Level.{greater}
-use Rattle.desk_store.specs.Listing.{filed_of}
+use Rattle.volume4d.specs.Slab.{top_held, greater}
+use Rattle.desk_store.specs.World.{filed_of}
 use Rattle.desk_store.proofs.RivalLemmas.{own_adds_none, low_adds_none, rival_adds}
 use Rattle.desk_store.proofs.list.push_rival.Goals as goal
 

@@ -1,9 +1,7 @@
 use Rattle.std.proofs.Common.{◌≡◌, ◌∷◌, ◌∙◌, ap, sym, refl}
-use Rattle.volume4d.specs.Slab.{top_held}
-use Rattle.volume4d.specs.Level.{greater}
+use Rattle.volume4d.specs.Slab.{top_held, greater}
 use Rattle.desk_rules.specs.Conflict.{at_least}
-use Rattle.desk_store.specs.OwnRows.{rivals_top}
-use Rattle.desk_store.specs.Listing.{filed_of, filed_all}
+use Rattle.desk_store.specs.World.{rivals_top, filed_of, filed_all}
 use Rattle.desk_store.proofs.RivalLemmas.{rivals_begin, rivals_end, rival_added, absent_adds_none}
 use Rattle.desk_store.proofs.list.rivals_of.Goals as goal
 

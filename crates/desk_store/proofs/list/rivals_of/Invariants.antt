@@ -1,10 +1,8 @@
 use Rattle.std.proofs.Common.{◌≡◌, true}
-use Rattle.volume4d.specs.Point.{Point}
-use Rattle.volume4d.specs.Slab.{slabs_have, top_held}
-use Rattle.volume4d.specs.Level.{greater}
+use Rattle.volume4d.specs.Volume.{Point}
+use Rattle.volume4d.specs.Slab.{slabs_have, top_held, greater}
 use Rattle.desk_rules.specs.Conflict.{at_least}
-use Rattle.desk_store.specs.OwnRows.{rivals_top}
-use Rattle.desk_store.specs.Listing.{filed_all}
+use Rattle.desk_store.specs.World.{rivals_top, filed_all}
 use Rattle.desk_store.proofs.list.rivals_of.Given as goal
 
 -- at points of the extents, the levels so far and those of the plans that are left are the levels of all

@@ -1,7 +1,6 @@
 use Rattle.std.proofs.Common.{◌≡◌, [], ◌∷◌, ◌++◌, ◌∙◌, ap, sym}
 use Rattle.std.proofs.lemmas.List.{append-nil}
-use Rattle.desk_store.specs.World.{rows_by}
-use Rattle.desk_store.specs.Listing.{filed_of, filed_all}
+use Rattle.desk_store.specs.World.{rows_by, filed_of, filed_all}
 use Rattle.desk_store.proofs.StoreLemmas.{row_added, row_passed}
 use Rattle.desk_store.proofs.list.rows_of.Goals as goal
 

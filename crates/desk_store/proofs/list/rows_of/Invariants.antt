@@ -1,6 +1,5 @@
 use Rattle.std.proofs.Common.{◌≡◌, ◌++◌}
-use Rattle.desk_store.specs.World.{rows_by}
-use Rattle.desk_store.specs.Listing.{filed_all}
+use Rattle.desk_store.specs.World.{rows_by, filed_all}
 use Rattle.desk_store.proofs.list.rows_of.Given as goal
 
 -- the rows so far and those of the plans that are left are the rows of all

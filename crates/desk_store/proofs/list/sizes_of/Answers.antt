@@ -1,7 +1,6 @@
 use Rattle.std.proofs.Common.{◌+◌, true, ap, sym, ◌∙◌, arith}
-use Rattle.desk_rules.specs.Plan.{row_cells, row_spans}
-use Rattle.desk_store.specs.World.{cells_beside, rows_by, spans_beside}
-use Rattle.desk_store.specs.Listing.{filed_of, filed_all}
+use Rattle.desk_rules.specs.Outcome.{row_cells, row_spans}
+use Rattle.desk_store.specs.World.{cells_beside, rows_by, spans_beside, filed_of, filed_all}
 use Rattle.desk_store.proofs.SpanLemmas.{count_added, count_none, same_sizes}
 use Rattle.desk_store.proofs.list.sizes_of.Goals as goal
 

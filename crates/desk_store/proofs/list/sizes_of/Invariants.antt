@@ -1,6 +1,5 @@
 use Rattle.std.proofs.Common.{◌≡◌, ◌+◌}
-use Rattle.desk_store.specs.World.{cells_beside, rows_by, spans_beside}
-use Rattle.desk_store.specs.Listing.{filed_all}
+use Rattle.desk_store.specs.World.{cells_beside, rows_by, spans_beside, filed_all}
 use Rattle.desk_store.proofs.list.sizes_of.Given as goal
 
 -- those counted and those that are left are all

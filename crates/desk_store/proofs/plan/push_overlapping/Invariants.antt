@@ -1,7 +1,6 @@
 use Rattle.std.proofs.Common.{◌≡◌, true, take}
-use Rattle.volume4d.specs.Point.{Point}
-use Rattle.volume4d.specs.Slab.{slabs_have, top_held}
-use Rattle.volume4d.specs.Level.{greater, level_where}
+use Rattle.volume4d.specs.Volume.{Point}
+use Rattle.volume4d.specs.Slab.{slabs_have, top_held, greater, level_where}
 use Rattle.desk_store.proofs.plan.push_overlapping.Given as goal
 
 -- at points of the extents, the levels before, and the priority where a slab so far has the point

@@ -1,9 +1,9 @@
 use Rattle.std.proofs.Common.{option_map, subst}
 use Rattle.request_parser.specs.Messages.{message_read}
-use Rattle.desk_store.specs.StoreFaults.{IsHonest}
-use Rattle.desk_run.specs.DeskFrames.{Leaves}
-use Rattle.desk_run.specs.DeskWorld.{world_of}
-use Rattle.desk_wire.specs.Failing.{desk_fault}
+use Rattle.desk_store.specs.Changes.{IsHonest}
+use Rattle.desk_run.specs.Calls.{Leaves}
+use Rattle.desk_run.specs.Verdicts.{world_of}
+use Rattle.desk_wire.specs.Bytes.{desk_fault}
 use Rattle.desk_wire.proofs.BytesLemmas.{left_read}
 use Rattle.desk_wire.proofs.ServeLemmas.{replied}
 use Rattle.desk_wire.proofs.answering.answer.Goals as goal

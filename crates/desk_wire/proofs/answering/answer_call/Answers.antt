@@ -1,15 +1,13 @@
 use Rattle.std.proofs.Common.{Err, ◌∙◌, ap, subst}
 use Rattle.std.proofs.lemmas.Result.{IfOk-weaker, on_ok_weaker}
-use Rattle.desk_store.specs.StoreFaults.{IsHonest}
+use Rattle.desk_store.specs.Changes.{IsHonest}
 use Rattle.desk_store.proofs.lemmas.Fault.{was_honest}
-use Rattle.desk_run.specs.DeskWorld.{world_of}
+use Rattle.desk_run.specs.Verdicts.{world_of, unknown_operator, no_such_plan}
 use Rattle.desk_run.specs.Calls.{IsPending, Prepares, world_committed}
-use Rattle.desk_run.specs.Verdicts.{unknown_operator, no_such_plan}
 use Rattle.io_ends.proofs.lemmas.Moment.{same_moment}
-use Rattle.desk_wire.specs.Bytes.{status, text}
+use Rattle.desk_wire.specs.Bytes.{status, text, failure_of}
 use Rattle.desk_wire.proofs.BytesLemmas.{change_unanswered, done_if_ok, done_unanswered, status_pending, status_unanswered}
 use Rattle.desk_run.proofs.lemmas.Crash.{leaves_after, leaves_read}
-use Rattle.desk_wire.specs.Failing.{failure_of}
 use Rattle.desk_wire.proofs.LeavingLemmas.{made_if, no_500, not_store}
 use Rattle.desk_wire.proofs.answering.answer_call.Goals as goal
 

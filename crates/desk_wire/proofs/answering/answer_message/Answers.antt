@@ -1,6 +1,6 @@
 use Rattle.std.proofs.Common.{refl, arith}
 use Rattle.desk_run.proofs.lemmas.Crash.{leaves_read}
-use Rattle.desk_wire.specs.Failing.{failure_of}
+use Rattle.desk_wire.specs.Bytes.{failure_of}
 use Rattle.desk_wire.proofs.LeavingLemmas.{not_store}
 use Rattle.desk_wire.proofs.answering.answer_message.Goals as goal
 

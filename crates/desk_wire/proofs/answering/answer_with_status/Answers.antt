@@ -1,10 +1,9 @@
 use Rattle.std.proofs.Common.{IfOk, refl, subst}
 use Rattle.request_parser.specs.Messages.{message_read}
-use Rattle.desk_store.specs.StoreFaults.{IsHonest}
-use Rattle.desk_run.specs.DeskFrames.{Leaves}
-use Rattle.desk_run.specs.DeskWorld.{world_of}
-use Rattle.desk_wire.specs.Bytes.{IsAnswerReported}
-use Rattle.desk_wire.specs.Failing.{failure_reported}
+use Rattle.desk_store.specs.Changes.{IsHonest}
+use Rattle.desk_run.specs.Calls.{Leaves}
+use Rattle.desk_run.specs.Verdicts.{world_of}
+use Rattle.desk_wire.specs.Bytes.{IsAnswerReported, failure_reported}
 use Rattle.desk_wire.proofs.BytesLemmas.{asked_read, left_read}
 use Rattle.desk_wire.proofs.answering.answer_with_status.Goals as goal
 

@@ -2,14 +2,12 @@ use Rattle.std.proofs.Common.{◌≡◌, ◌≤◌, ◌+◌, ◌-◌, ◌∙◌,
 use Rattle.std.proofs.lemmas.List.{length-append, length-map}
 use Rattle.request_parser.specs.Messages.{message_read}
 use Rattle.desk_store.proofs.lemmas.Fault.{was_honest}
-use Rattle.desk_run.specs.DeskWorld.{world_of}
-use Rattle.desk_wire.specs.AllAnswers.{AreBroken}
+use Rattle.desk_run.specs.Verdicts.{world_of}
+use Rattle.desk_wire.specs.Bytes.{AreBroken, IsLastAnswer, desk_fault}
 use Rattle.desk_wire.specs.declared.batch.AnswersEnd.TheVariants.{All, Broken, NoMemory}
 use Rattle.desk_wire.proofs.GivenLemmas.{given_quiet}
-use Rattle.desk_wire.specs.RequestsKept.{IsFoundInRequests}
-use Rattle.desk_wire.specs.FailureCauses.{IsLastAnswer}
+use Rattle.desk_wire.specs.Given.{IsFoundInRequests}
 use Rattle.desk_run.proofs.lemmas.Crash.{risen_since}
-use Rattle.desk_wire.specs.Failing.{desk_fault}
 use Rattle.desk_wire.proofs.CauseLemmas.{failed_there, last_said, not_none}
 use Rattle.desk_wire.proofs.AllLemmas.{HaveAnswers, one_answered, cut_answered, all_answered, done_so, failed_so}
 use Rattle.desk_wire.proofs.KeptLemmas.{found_next, found_settled, is_none_by}

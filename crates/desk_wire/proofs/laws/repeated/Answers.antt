@@ -1,8 +1,8 @@
 use Rattle.std.proofs.Common.{◌≡◌, ℤ, Ok, Err, refl}
 use Rattle.desk_rules.specs.declared.call.Asked.{Asked}
-use Rattle.request_parser.specs.Readings.{Reading}
+use Rattle.request_parser.specs.Messages.{Reading}
 use Rattle.request_parser.specs.Requests.{asked}
-use Rattle.desk_run.specs.DeskWorld.{DeskWorld}
+use Rattle.desk_run.specs.Verdicts.{DeskWorld}
 use Rattle.desk_run.proofs.lemmas.Repeat.{step_again}
 use Rattle.desk_wire.specs.Bytes.{world_after}
 use Rattle.desk_wire.proofs.laws.repeated.Goals as goal

@@ -1,4 +1,4 @@
-use Rattle.desk_store.specs.StoreFaults.{IsHonest}
+use Rattle.desk_store.specs.Changes.{IsHonest}
 use Rattle.desk_wire.proofs.StreamGivenLemmas.{play_given, given_same, play_quiet}
 use Rattle.desk_wire.proofs.laws.stream_given.Goals as goal
 

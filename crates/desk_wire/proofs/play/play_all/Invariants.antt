@@ -1,7 +1,7 @@
 use Rattle.std.proofs.Common.{◌≤◌}
-use Rattle.desk_store.specs.StoreFaults.{IsHonest}
-use Rattle.desk_run.specs.DeskWorld.{IsSettled, world_of}
-use Rattle.desk_wire.specs.Passage.{passed}
+use Rattle.desk_store.specs.Changes.{IsHonest}
+use Rattle.desk_run.specs.Verdicts.{IsSettled, world_of}
+use Rattle.desk_wire.specs.Streams.{passed}
 use Rattle.desk_wire.specs.Playing.{ArePlayed}
 use Rattle.desk_wire.proofs.CauseLemmas.{Grows}
 use Rattle.desk_wire.proofs.play.play_all.Given as goal

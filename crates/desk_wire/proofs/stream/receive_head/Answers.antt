@@ -1,7 +1,7 @@
 use Rattle.std.proofs.Common.{◌+◌, ◌∷◌, [], length, length-append, arith, sym, ap, subst, ◌∙◌}
 use Rattle.std.proofs.KnownBytes.{Consumes-trans}
 use Rattle.std.specs.Io.KnownBytes.{Consumes}
-use Rattle.request_parser.specs.Framing.{ends_head}
+use Rattle.request_parser.specs.Heads.{ends_head}
 use Rattle.desk_wire.proofs.FrontLemmas.{HasNone, reported_cut, one_more, some_count}
 use Rattle.desk_wire.proofs.stream.receive_head.Goals as goal
 

@@ -1,12 +1,12 @@
 use Rattle.std.proofs.Common.{◌<◌, ◌++◌, IfSome, Ok, option_map, refl, sym, ap, subst, ◌∙◌, length}
 use Rattle.std.specs.Result.{is_ok}
 use Rattle.request_parser.specs.Messages.{message_read}
-use Rattle.desk_store.specs.StoreFaults.{IsHonest}
-use Rattle.desk_run.specs.DeskWorld.{world_of}
+use Rattle.desk_store.specs.Changes.{IsHonest}
+use Rattle.desk_run.specs.Verdicts.{world_of}
 use Rattle.desk_wire.specs.Streams.{front_parsed, front_result, size_or_zero, with_body}
 use Rattle.desk_wire.proofs.FrontLemmas.{some_count, reported_cut_body}
-use Rattle.desk_wire.specs.RequestsKept.{IsCertain}
-use Rattle.desk_wire.specs.Failing.{desk_fault}
+use Rattle.desk_wire.specs.Given.{IsCertain}
+use Rattle.desk_wire.specs.Bytes.{desk_fault}
 use Rattle.desk_wire.proofs.KeptLemmas.{if_some_all, kept_answered, kept_failed, left_served, no_failure, uncertain_memory, uncertain_write, unsure_500}
 use Rattle.std.specs.Io.KnownBytes.{Appends}
 use Rattle.desk_wire.proofs.CauseLemmas.{failed_served, failed_there}

@@ -1,6 +1,6 @@
 use Rattle.std.proofs.Common.{◌≡◌, map, take}
 use Rattle.serde_json.specs.View.{view}
-use Rattle.desk_writing.specs.ShownBody.{volume_data}
+use Rattle.desk_writing.specs.ReplyText.{volume_data}
 use Rattle.desk_writing.proofs.shown_out.area_value.Given as goal
 
 -- the values so far

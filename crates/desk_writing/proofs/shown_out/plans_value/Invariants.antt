@@ -1,6 +1,6 @@
 use Rattle.std.proofs.Common.{◌≡◌, map, take}
 use Rattle.serde_json.specs.View.{view}
-use Rattle.desk_writing.specs.ShownBody.{shown_data}
+use Rattle.desk_writing.specs.ReplyText.{shown_data}
 use Rattle.desk_writing.proofs.shown_out.plans_value.Given as goal
 
 -- the values so far

@@ -1,4 +1,4 @@
-use Rattle.desk_rules.specs.Replies.{said_in}
+use Rattle.desk_rules.specs.Outcome.{said_in}
 use Rattle.desk_writing.proofs.WholeLemmas.{reply-whole}
 use Rattle.desk_writing.proofs.texts.reply_answer.Goals as goal
 

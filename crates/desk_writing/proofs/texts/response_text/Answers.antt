@@ -1,5 +1,5 @@
 use Rattle.std.proofs.Common.{rules}
-use Rattle.desk_writing.specs.Answer.{answer_text}
+use Rattle.desk_writing.specs.ReplyText.{answer_text}
 use Rattle.desk_writing.proofs.texts.response_text.Goals as goal
 
 pub returns : goal.returns

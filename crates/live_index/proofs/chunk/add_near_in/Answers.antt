@@ -1,4 +1,4 @@
-use Rattle.slab_regions.specs.SearchArea.{sought_has}
+use Rattle.slab_regions.specs.Regions.{sought_has}
 use Rattle.live_index.specs.Live.{IsBoundedChunk}
 use Rattle.live_index.proofs.NearLemmas.{adds_next, adds_none}
 use Rattle.live_index.proofs.chunk.add_near_in.Goals as goal

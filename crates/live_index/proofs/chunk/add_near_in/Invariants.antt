@@ -1,7 +1,6 @@
 use Rattle.std.proofs.Common.{take}
-use Rattle.slab_regions.specs.SearchArea.{sought_has}
-use Rattle.live_index.specs.Live.{AreBoundedChunks, volumes_in}
-use Rattle.live_index.specs.Near.{AddsPlans}
+use Rattle.slab_regions.specs.Regions.{sought_has}
+use Rattle.live_index.specs.Live.{AreBoundedChunks, volumes_in, AddsPlans}
 use Rattle.live_index.proofs.chunk.add_near_in.Given as goal
 
 abbrev pub invariant-loop-chunk : goal.invariant-loop-chunk

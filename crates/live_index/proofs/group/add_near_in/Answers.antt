@@ -1,4 +1,4 @@
-use Rattle.slab_regions.specs.SearchArea.{sought_has}
+use Rattle.slab_regions.specs.Regions.{sought_has}
 use Rattle.live_index.specs.Live.{IsBoundedGroup, volumes_in}
 use Rattle.live_index.proofs.NearLemmas.{adds_next, adds_none}
 use Rattle.live_index.proofs.group.add_near_in.Goals as goal

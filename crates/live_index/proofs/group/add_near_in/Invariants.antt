@@ -1,7 +1,6 @@
 use Rattle.std.proofs.Common.{take}
-use Rattle.slab_regions.specs.SearchArea.{sought_has}
-use Rattle.live_index.specs.Live.{AreBoundedGroups, volumes_under}
-use Rattle.live_index.specs.Near.{AddsPlans}
+use Rattle.slab_regions.specs.Regions.{sought_has}
+use Rattle.live_index.specs.Live.{AreBoundedGroups, volumes_under, AddsPlans}
 use Rattle.live_index.proofs.group.add_near_in.Given as goal
 
 abbrev pub invariant-loop-group : goal.invariant-loop-group

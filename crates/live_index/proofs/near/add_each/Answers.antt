@@ -1,4 +1,4 @@
-use Rattle.slab_regions.specs.SearchArea.{sought_has}
+use Rattle.slab_regions.specs.Regions.{sought_has}
 use Rattle.live_index.proofs.NearLemmas.{adds_none, adds_volume}
 use Rattle.live_index.proofs.near.add_each.Goals as goal
 

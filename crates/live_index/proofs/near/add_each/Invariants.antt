@@ -1,6 +1,6 @@
 use Rattle.std.proofs.Common.{take}
-use Rattle.slab_regions.specs.SearchArea.{sought_has}
-use Rattle.live_index.specs.Near.{AddsPlans}
+use Rattle.slab_regions.specs.Regions.{sought_has}
+use Rattle.live_index.specs.Live.{AddsPlans}
 use Rattle.live_index.proofs.near.add_each.Given as goal
 
 abbrev pub invariant-loop-live : goal.invariant-loop-live

@@ -1,5 +1,5 @@
 use Rattle.std.proofs.Common.{Some, arith, ap}
-use Rattle.live_index.specs.Places.{length_or_none, list_of}
+use Rattle.live_index.specs.Live.{length_or_none, list_of}
 use Rattle.live_index.proofs.PlaceLemmas.{absent, grown}
 use Rattle.live_index.proofs.places.ensure_list.Goals as goal
 

@@ -1,5 +1,5 @@
 use Rattle.std.proofs.Common.{IsSome, Some, ap, arith, length, refl, subst}
-use Rattle.live_index.specs.Places.{length_or_none}
+use Rattle.live_index.specs.Live.{length_or_none}
 use Rattle.live_index.proofs.PlaceLemmas.{grown}
 use Rattle.live_index.proofs.places.push.Goals as goal
 

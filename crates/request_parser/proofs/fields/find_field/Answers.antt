@@ -1,7 +1,7 @@
 use Rattle.std.proofs.Common.{◌≡◌, ap, sym, ◌∙◌}
 use Rattle.httparse.specs.declared.spans.HeaderSpan.{HeaderSpan}
 use Rattle.std.specs.Str.{str_eq_ignore_ascii_case}
-use Rattle.request_parser.specs.Fields.{count_shown, once}
+use Rattle.request_parser.specs.Heads.{count_shown, once}
 use Rattle.request_parser.proofs.FieldLemmas.{same_name-from, first_found, further_found, once_of-passed}
 use Rattle.request_parser.proofs.fields.find_field.Goals as goal
 use Rattle.request_parser.proofs.fields.find_field.Goals.{then-eq_ignore_ascii_case+in-Absent, then-eq_ignore_ascii_case+in_default, else-eq_ignore_ascii_case}

@@ -1,6 +1,6 @@
 use Rattle.std.proofs.Common.{◌≡◌, map, take}
 use Rattle.httparse.specs.Spans.{header_bytes}
-use Rattle.request_parser.specs.Fields.{count_in, count_shown}
+use Rattle.request_parser.specs.Heads.{count_in, count_shown}
 use Rattle.request_parser.proofs.fields.find_field.Given as goal
 
 -- what was found among the headers so far

@@ -1,6 +1,6 @@
 use Rattle.std.proofs.Common.{◌+◌, ◌<◌, ◌≡◌, min, take, length, sym, arith}
 use Rattle.request_parser.specs.WireLimits.{head_room}
-use Rattle.request_parser.specs.Framing.{ends_head, head_len}
+use Rattle.request_parser.specs.Heads.{ends_head, head_len}
 use Rattle.request_parser.proofs.FramingLemmas.{least_found}
 use Rattle.request_parser.proofs.framing.head_length.Goals as goal
 

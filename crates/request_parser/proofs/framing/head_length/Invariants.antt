@@ -1,5 +1,5 @@
 use Rattle.std.proofs.Common.{◌≡◌, take, None}
-use Rattle.request_parser.specs.Framing.{ends_head, least}
+use Rattle.request_parser.specs.Heads.{ends_head, least}
 use Rattle.request_parser.proofs.framing.head_length.Given as goal
 
 -- no shorter prefix ends a head

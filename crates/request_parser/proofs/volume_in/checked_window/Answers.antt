@@ -1,7 +1,7 @@
 use Rattle.std.proofs.Common.{◌∙◌, ap, w32, w64, SFits, rules}
 use Rattle.std.specs.Result.{result_ok}
 use Rattle.std.proofs.lemmas.Int.{to_z-of_z}
-use Rattle.volume4d.specs.Windows.{window_or_fault}
+use Rattle.volume4d.specs.Volume.{window_or_fault}
 use Rattle.request_parser.proofs.WindowLemmas.{converted_is}
 use Rattle.request_parser.proofs.volume_in.checked_window.Goals as goal
 

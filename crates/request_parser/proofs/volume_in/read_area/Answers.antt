@@ -1,8 +1,7 @@
 use Rattle.std.proofs.Common.{◌∙◌, sym, Vec, Global}
 use Rattle.volume4d.specs.declared.volume.Volume.{Volume}
 use Rattle.serde_json.specs.View.{items_view}
-use Rattle.request_parser.specs.JsonIn.{each}
-use Rattle.request_parser.specs.VolumeIn.{volume_of}
+use Rattle.request_parser.specs.Requests.{each, volume_of}
 use Rattle.request_parser.proofs.AreaLemmas.{area_of-uncounted, area_of-counted, made}
 use Rattle.request_parser.proofs.JsonLemmas.{gives_again}
 use Rattle.request_parser.proofs.volume_in.read_area.Goals as goal

@@ -1,6 +1,6 @@
 use Rattle.std.proofs.Common.{◌≡◌, ◌∙◌, sym, ap}
 use Rattle.serde_json.specs.View.{view}
-use Rattle.request_parser.specs.VolumeIn.{token_of}
+use Rattle.request_parser.specs.Requests.{token_of}
 use Rattle.request_parser.proofs.EachLemmas.{read_from-start, read_from-more, read_from-stop, read_from-end}
 use Rattle.request_parser.proofs.JsonLemmas.{gives_fault}
 use Rattle.request_parser.proofs.volume_in.read_tokens.Goals as goal

@@ -1,7 +1,6 @@
 use Rattle.std.proofs.Common.{◌≡◌}
 use Rattle.serde_json.specs.View.{items_view}
-use Rattle.request_parser.specs.JsonIn.{each}
-use Rattle.request_parser.specs.VolumeIn.{token_of}
+use Rattle.request_parser.specs.Requests.{each, token_of}
 use Rattle.request_parser.proofs.EachLemmas.{read_from}
 use Rattle.request_parser.proofs.volume_in.read_tokens.Given as goal
 

@@ -1,6 +1,6 @@
 use Rattle.std.proofs.Common.{◌≡◌, ◌∙◌, sym, ap, Err}
 use Rattle.serde_json.specs.View.{view}
-use Rattle.request_parser.specs.VolumeIn.{volume_of}
+use Rattle.request_parser.specs.Requests.{volume_of}
 use Rattle.request_parser.specs.declared.wire_fault.WireFault.{WireFault}
 use Rattle.request_parser.proofs.EachLemmas.{read_from-start, read_from-more, read_from-stop, read_from-end}
 use Rattle.request_parser.proofs.JsonLemmas.{gives_again}

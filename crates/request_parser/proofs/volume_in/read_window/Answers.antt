@@ -1,6 +1,6 @@
 use Rattle.std.proofs.Common.{w64, SFits, rules}
 use Rattle.std.proofs.lemmas.Int.{to_z-of_z}
-use Rattle.request_parser.specs.VolumeIn.{window_of}
+use Rattle.request_parser.specs.Requests.{window_of}
 use Rattle.request_parser.proofs.volume_in.read_window.Goals as goal
 
 pub returns : goal.returns

@@ -1,5 +1,5 @@
 use Rattle.std.proofs.Common.{map, take}
-use Rattle.row_codec.specs.PlanRows.{AreCanonOf}
+use Rattle.row_codec.specs.Tables.{AreCanonOf}
 use Rattle.row_codec.proofs.canon.canons_of.Given as goal
 
 -- the bytes of the covers of the volumes so far

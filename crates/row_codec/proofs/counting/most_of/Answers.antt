@@ -1,7 +1,7 @@
 use Rattle.std.proofs.Common.{◌∙◌, ap}
 use Rattle.std.specs.List.{prefix_len}
 use Rattle.desk_store.specs.World.{Filed, is_by}
-use Rattle.row_codec.specs.Counting.{count_of}
+use Rattle.row_codec.specs.SpanBounds.{count_of}
 use Rattle.row_codec.proofs.CountingLemmas.{begin, ends, goes_on, mine_few}
 use Rattle.row_codec.proofs.AscendLemmas.{empty}
 use Rattle.row_codec.proofs.counting.most_of.Goals as goal

@@ -1,5 +1,5 @@
 use Rattle.std.proofs.Common.{length}
-use Rattle.row_codec.specs.Counting.{count_of}
+use Rattle.row_codec.specs.SpanBounds.{count_of}
 use Rattle.row_codec.proofs.CountingLemmas.{AreSummed}
 use Rattle.row_codec.proofs.counting.most_of.Given as goal
 

@@ -1,5 +1,5 @@
 use Rattle.std.proofs.Common.{sym, true≢false}
-use Rattle.row_codec.specs.Records.{row_fault_of}
+use Rattle.row_codec.specs.Tables.{row_fault_of}
 use Rattle.row_codec.proofs.lemmas.Unread.{on_err}
 use Rattle.row_codec.proofs.lemmas.Exact.{store_of, no_area, no_other}
 use Rattle.row_codec.proofs.exact.filed_in.Goals as goal

@@ -1,7 +1,7 @@
 use Rattle.std.proofs.Common.{◌++◌, map, ap, ◌∙◌, ◌+◌}
-use Rattle.desk_changes.specs.Batches.{span_row_in}
+use Rattle.desk_changes.specs.RowChanges.{span_row_in}
 use Rattle.desk_store.specs.Changes.{filed_by}
-use Rattle.row_codec.specs.PlanRows.{slab_record}
+use Rattle.row_codec.specs.Tables.{slab_record}
 use Rattle.row_codec.proofs.RecordLemmas.{map_append, spans_put}
 use Rattle.row_codec.proofs.records.area_spans.Goals as goal
 

@@ -1,5 +1,5 @@
 use Rattle.std.proofs.Common.{◌≡◌, map, take}
-use Rattle.desk_changes.specs.Batches.{span_row_in}
+use Rattle.desk_changes.specs.RowChanges.{span_row_in}
 use Rattle.desk_store.specs.Changes.{filed_by}
 use Rattle.row_codec.specs.Tables.{AreSpanRowsFrom}
 use Rattle.row_codec.proofs.records.area_spans.Given as goal

@@ -1,7 +1,7 @@
 use Rattle.std.proofs.Common.{map, take}
 use Rattle.std.specs.List.{AllByRecursion}
-use Rattle.row_codec.specs.PlanRows.{AreAskedOf}
-use Rattle.desk_store.specs.Content.{IsValidVolume}
+use Rattle.row_codec.specs.Tables.{AreAskedOf}
+use Rattle.desk_store.specs.World.{IsValidVolume}
 use Rattle.row_codec.proofs.records.asked_of.Given as goal
 
 -- the bytes of the volumes so far

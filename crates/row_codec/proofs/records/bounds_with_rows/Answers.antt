@@ -1,7 +1,7 @@
 use Rattle.std.proofs.Common.{◌+◌, drop}
 use Rattle.std.proofs.Math.ListN.{drop_of_length-le}
 use Rattle.std.proofs.lemmas.List.{drop_more}
-use Rattle.desk_changes.specs.Batches.{span_row_in}
+use Rattle.desk_changes.specs.RowChanges.{span_row_in}
 use Rattle.row_codec.proofs.lemmas.SpanBound.{records_on, records_end}
 use Rattle.row_codec.proofs.records.bounds_with_rows.Goals as goal
 

@@ -1,5 +1,5 @@
 use Rattle.std.proofs.Common.{drop}
-use Rattle.desk_changes.specs.Batches.{span_row_in}
+use Rattle.desk_changes.specs.RowChanges.{span_row_in}
 use Rattle.row_codec.specs.SpanBounds.{IsKnownRow, Keeps}
 use Rattle.row_codec.proofs.lemmas.SpanBound.{AreLeft}
 use Rattle.row_codec.proofs.records.bounds_with_rows.Given as goal

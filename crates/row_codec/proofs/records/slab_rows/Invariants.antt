@@ -1,6 +1,6 @@
 use Rattle.std.proofs.Common.{◌≡◌, map, take}
-use Rattle.desk_changes.specs.Batches.{span_row_in}
-use Rattle.row_codec.specs.PlanRows.{slab_record}
+use Rattle.desk_changes.specs.RowChanges.{span_row_in}
+use Rattle.row_codec.specs.Tables.{slab_record}
 use Rattle.row_codec.proofs.records.slab_rows.Given as goal
 
 -- the rows of the slabs so far

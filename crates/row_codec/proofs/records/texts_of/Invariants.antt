@@ -2,7 +2,7 @@ use Rattle.std.proofs.Common.{◌≡◌, map, take}
 use Rattle.std.specs.List.{AllByRecursion}
 use Rattle.std.specs.String.{string_bytes}
 use Rattle.row_codec.specs.Tables.{id_text}
-use Rattle.desk_store.specs.Content.{IsId}
+use Rattle.desk_store.specs.World.{IsId}
 use Rattle.row_codec.proofs.records.texts_of.Given as goal
 
 -- the texts of the ids so far

@@ -1,6 +1,6 @@
 use Rattle.std.proofs.Common.{get_or, [], ◌∷◌, map, ap, sym, ◌∙◌, ◌+◌}
-use Rattle.volume4d.specs.FootprintBytes.{footprint_bytes}
-use Rattle.desk_changes.specs.Batches.{volume_row_in, cover_of}
+use Rattle.volume4d.specs.Footprint.{footprint_bytes}
+use Rattle.desk_changes.specs.RowChanges.{volume_row_in, cover_of}
 use Rattle.desk_store.specs.Changes.{filed_by}
 use Rattle.row_codec.specs.Tables.{canon_bytes}
 use Rattle.row_codec.proofs.RecordLemmas.{map_append, at_both, volume_put, cover_put}

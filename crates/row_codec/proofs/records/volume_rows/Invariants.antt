@@ -1,5 +1,5 @@
 use Rattle.std.proofs.Common.{◌≡◌, map, take}
-use Rattle.desk_changes.specs.Batches.{volume_row_in, cover_of}
+use Rattle.desk_changes.specs.RowChanges.{volume_row_in, cover_of}
 use Rattle.desk_store.specs.Changes.{filed_by}
 use Rattle.row_codec.specs.Tables.{rows_from, row_of_cover, volume_rows_from}
 use Rattle.row_codec.proofs.records.volume_rows.Given as goal

@@ -1,5 +1,5 @@
 use Rattle.std.proofs.Common.{ap, ◌∙◌}
-use Rattle.row_codec.specs.Gathering.{plan_with}
+use Rattle.row_codec.specs.RowsRead.{plan_with}
 use Rattle.row_codec.proofs.values.plan_in.Goals as goal
 
 pub returns-clause-value : goal.returns-clause-value

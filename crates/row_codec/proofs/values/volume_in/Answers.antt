@@ -1,8 +1,7 @@
 use Rattle.std.proofs.Common.{w32, w64, SFits, subst, rules}
 use Rattle.std.proofs.lemmas.Int.{to_z-of_z}
-use Rattle.volume4d.specs.Footprint.{shape_of}
-use Rattle.volume4d.specs.FootprintBytes.{AreBytesOf}
-use Rattle.volume4d.specs.Shape.{Shape}
+use Rattle.volume4d.specs.Footprint.{shape_of, AreBytesOf}
+use Rattle.volume4d.specs.Volume.{Shape}
 use Rattle.row_codec.proofs.ReadingLemmas.{volume_is}
 use Rattle.row_codec.proofs.lemmas.Unread.{on_err, no_lower, no_upper, no_volume_window, no_footprint, no_cover, past_limit, volume_stands}
 use Rattle.row_codec.proofs.values.volume_in.Goals as goal

@@ -1,4 +1,4 @@
-use Rattle.s2_cellid.specs.Token.{token_text}
+use Rattle.s2_cellid.specs.Cell.{token_text}
 use Rattle.s2_cellid.proofs.Spellings.{holds_token, spelling_of-token, printed_token, only_token}
 use Rattle.s2_cellid.proofs.Readings.{reads_spelling}
 use Rattle.s2_cellid.proofs.CellId.token.Goals as goal

@@ -1,6 +1,6 @@
 use Rattle.std.proofs.Common.{◌<◌, ◌≢◌, length, arith, get_or-set_other, get_or-set_same, below_more, sym, ◌∙◌}
 use Rattle.std.proofs.lemmas.List.{ext_get_or}
-use Rattle.s2_cellid.specs.Token.{hex_digits}
+use Rattle.s2_cellid.specs.Cell.{hex_digits}
 use Rattle.s2_cellid.proofs.Spellings.{digit_at, length-hex_digits}
 use Rattle.s2_cellid.proofs.tokens.hex_digits.Goals as goal
 

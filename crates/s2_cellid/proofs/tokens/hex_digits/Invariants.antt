@@ -1,5 +1,5 @@
 use Rattle.std.proofs.Common.{◌≡◌, ℕ, ◌<◌, get_or}
-use Rattle.s2_cellid.specs.Token.{hex_digits}
+use Rattle.s2_cellid.specs.Cell.{hex_digits}
 use Rattle.s2_cellid.proofs.tokens.hex_digits.Given as goal
 
 -- the digits so far are in their places

@@ -1,5 +1,5 @@
 use Rattle.std.proofs.Common.{◌<◌, length, arith, subst, sym, add-one, ◌≡◌}
-use Rattle.s2_cover.specs.Laying.{IsLaid}
+use Rattle.s2_cover.specs.Covers.{IsLaid}
 use Rattle.s2_cover.proofs.Laid.{canonical_when_laid, leaves_when_laid}
 use Rattle.s2_cover.proofs.Runs.{run_at, laid_before, all_below, end_of}
 use Rattle.s2_cover.proofs.covers.largest_cells.Goals as goal

@@ -1,4 +1,4 @@
-use Rattle.s2_cover.specs.Laying.{IsLaid}
+use Rattle.s2_cover.specs.Covers.{IsLaid}
 use Rattle.s2_cover.proofs.Runs.{end_of}
 use Rattle.s2_cover.proofs.covers.largest_cells.Given as goal
 

@@ -1,6 +1,6 @@
 use Rattle.std.proofs.Common.{subst, sym, refl}
 use Rattle.s2_cellid.specs.Cell.{IsCellId}
-use Rattle.s2_cover.specs.Laying.{IsLargestFrom}
+use Rattle.s2_cover.specs.Covers.{IsLargestFrom}
 use Rattle.s2_cover.proofs.Beginnings.{some_when, at_some, id_from, begun, largest_of}
 use Rattle.s2_cover.proofs.covers.largest_from.Goals as goal
 

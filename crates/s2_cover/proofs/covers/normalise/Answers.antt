@@ -1,8 +1,7 @@
 use Rattle.std.proofs.Common.{◌≡◌, length, sym, ap, ◌∙◌, rules, arith}
 use Rattle.std.proofs.lemmas.List.Sorted.{IsNonDecreasingBy-from_sort_by_key}
 use Rattle.s2_cellid.specs.Cell.{first_leaf}
-use Rattle.s2_cover.specs.Leaves.{leaves_of}
-use Rattle.s2_cover.specs.Ranges.{spans_have}
+use Rattle.s2_cover.specs.Covers.{leaves_of, spans_have}
 use Rattle.s2_cover.proofs.Laid.{canonical_same}
 use Rattle.s2_cover.proofs.Merging.{given_leaves, some_kept}
 use Rattle.s2_cover.proofs.covers.normalise.Goals as goal

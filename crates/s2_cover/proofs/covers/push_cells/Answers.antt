@@ -1,6 +1,6 @@
 use Rattle.std.proofs.Common.{ℕ, ◌≡◌, ◌+◌, List, arith, subst, sym}
 use Rattle.s2_cellid.specs.Cell.{last_leaf}
-use Rattle.s2_cover.specs.Laying.{IsLaid}
+use Rattle.s2_cover.specs.Covers.{IsLaid}
 use Rattle.s2_cover.proofs.Laid.{IsCutAt, largest_at, next_cut, laid_more}
 use Rattle.s2_cover.proofs.covers.push_cells.Goals as goal
 

@@ -1,5 +1,5 @@
 use Rattle.std.proofs.Common.{◌+◌, ◌-◌, ◌≤◌}
-use Rattle.s2_cover.specs.Laying.{IsLaid}
+use Rattle.s2_cover.specs.Covers.{IsLaid}
 use Rattle.s2_cover.proofs.Laid.{IsCutAt}
 use Rattle.s2_cover.proofs.covers.push_cells.Given as goal
 

@@ -1,7 +1,6 @@
 use Rattle.std.proofs.Common.{◌≡◌, subst, sym}
 use Rattle.s2_hilbert.specs.Grid.{side_of}
-use Rattle.s2_cover.specs.Rectangles.{WideParts, is_along, wide_set}
-use Rattle.s2_cover.specs.Walking.{IsRangeOverlap, IsSquareOverlap}
+use Rattle.s2_cover.specs.Covers.{WideParts, is_along, wide_set, IsRangeOverlap, IsSquareOverlap}
 use Rattle.s2_cover.proofs.Sights.{some_span, square_seen}
 use Rattle.s2_cover.proofs.sight.compare.Goals as goal
 

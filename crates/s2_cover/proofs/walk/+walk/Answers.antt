@@ -1,9 +1,7 @@
 use Rattle.std.proofs.Common.{◌≡◌, ◌+◌, ◌-◌, ◌*◌, ◌^◌, ◌<◌, length, ℕ, List, refl, sym, ◌∙◌, ap, subst, arith}
 use Rattle.s2_hilbert.specs.Curve.{first_position, last_position, leaf_count}
-use Rattle.s2_cellid.specs.Family.{square_id}
-use Rattle.s2_cover.specs.Laying.{IsLaid}
-use Rattle.s2_cover.specs.Rectangles.{wide_set}
-use Rattle.s2_cover.specs.Walking.{HasWalked, HasStopped, comparisons_for}
+use Rattle.s2_cellid.specs.Cell.{square_id}
+use Rattle.s2_cover.specs.Covers.{IsLaid, wide_set, HasWalked, HasStopped, comparisons_for}
 use Rattle.s2_cover.proofs.SquareCells.{square_block}
 use Rattle.s2_cover.proofs.Walks.{IsWalking, block_largest, child_opened, walked_outside, walked_inside, stopped_full, walking_begins, walking_goes_on, child_most, walking_ends, child_block, child_upto, stopped_later, if_err}
 use Rattle.s2_cover.proofs.walk.+walk.Goals as goal

@@ -1,6 +1,6 @@
 use Rattle.std.proofs.Common.{◌+◌, ◌-◌, ◌*◌}
 use Rattle.s2_hilbert.specs.Curve.{first_position, leaf_count}
-use Rattle.s2_cover.specs.Rectangles.{wide_set}
+use Rattle.s2_cover.specs.Covers.{wide_set}
 use Rattle.s2_cover.proofs.Walks.{IsWalking}
 use Rattle.s2_cover.proofs.walk.+walk.Given as goal
 

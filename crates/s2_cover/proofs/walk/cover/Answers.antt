@@ -1,12 +1,7 @@
 use Rattle.std.proofs.Common.{◌-◌, ◌+◌, [], length, sym, ◌∙◌, ap, subst, arith}
 use Rattle.s2_hilbert.specs.Curve.{first_position}
-use Rattle.s2_cellid.specs.Family.{square_id}
-use Rattle.s2_cover.specs.Leaves.{leaves_of}
-use Rattle.s2_cover.specs.Canonical.{IsCanonical}
-use Rattle.s2_cover.specs.CanonicalList.{IsLonger}
-use Rattle.s2_cover.specs.Laying.{IsLaid}
-use Rattle.s2_cover.specs.Rectangles.{rect_leaves, wide_set}
-use Rattle.s2_cover.specs.Walking.{IsOpened, IsRefused, HasCompared}
+use Rattle.s2_cellid.specs.Cell.{square_id}
+use Rattle.s2_cover.specs.Covers.{leaves_of, IsCanonical, IsLonger, IsLaid, rect_leaves, wide_set, IsOpened, IsRefused, HasCompared}
 use Rattle.s2_cover.proofs.Listing.{same_list, longer}
 use Rattle.s2_cover.proofs.Faces.{whole, laid_before, whole_opened, IsCovered, covered, refused, covers_footprint, some_cells}
 use Rattle.s2_cover.proofs.Walks.{if_err}

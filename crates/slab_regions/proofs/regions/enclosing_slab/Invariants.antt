@@ -1,6 +1,5 @@
 use Rattle.std.proofs.Common.{◌∷◌, take}
-use Rattle.volume4d.specs.Bounds.{HasAll}
-use Rattle.volume4d.specs.Slab.{slabs_have}
+use Rattle.volume4d.specs.Slab.{HasAll, slabs_have}
 use Rattle.slab_regions.proofs.regions.enclosing_slab.Given as goal
 
 abbrev pub invariant-loop-extent : goal.invariant-loop-extent

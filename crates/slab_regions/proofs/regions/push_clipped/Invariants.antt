@@ -1,7 +1,6 @@
 use Rattle.std.proofs.Common.{◌≡◌, cond, None, take}
-use Rattle.volume4d.specs.Point.{Point}
-use Rattle.volume4d.specs.Slab.{slab_has, top_held}
-use Rattle.volume4d.specs.Level.{greater}
+use Rattle.volume4d.specs.Volume.{Point}
+use Rattle.volume4d.specs.Slab.{slab_has, top_held, greater}
 use Rattle.slab_regions.proofs.regions.push_clipped.Given as goal
 
 abbrev pub invariant-loop-held : goal.invariant-loop-held

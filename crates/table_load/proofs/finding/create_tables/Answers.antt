@@ -1,6 +1,6 @@
 use Rattle.table_load.proofs.lemmas.Cut.{created_leaves}
 use Rattle.std.proofs.Common.{◌∙◌, arith, refl, rules, sym, subst}
-use Rattle.table_load.specs.Standing.{Stands}
+use Rattle.table_load.specs.Opening.{Stands}
 use Rattle.table_load.proofs.lemmas.Opening.{blames_reading}
 use Rattle.table_load.proofs.lemmas.Small.{blank_spans}
 use Rattle.table_load.proofs.lemmas.Store.{made_stands}

@@ -1,5 +1,5 @@
 use Rattle.table_load.proofs.lemmas.Cut.{completed_leaves, spared_becomes}
-use Rattle.table_load.specs.CutShort.{IsCompletedAs}
+use Rattle.table_load.specs.OpeningSteps.{IsCompletedAs}
 use Rattle.std.proofs.Common.{rules}
 use Rattle.table_load.proofs.lemmas.Opening.{unread_as}
 use Rattle.table_load.proofs.lemmas.Small.{blames_completing}

@@ -1,11 +1,10 @@
 use Rattle.table_load.proofs.lemmas.Cut.{spared_becomes}
-use Rattle.table_load.specs.CutShort.{IsCompletedAs}
+use Rattle.table_load.specs.OpeningSteps.{IsCompletedAs, BeginsCompleted, BeginsOrdered}
 use Rattle.std.proofs.Common.{inl, inr, rules}
 use Rattle.desk_sql.specs.declared.opening.finding.TablesPresent.TheVariants.{All, Packed}
-use Rattle.desk_sql.specs.Finding.{Holds}
+use Rattle.desk_sql.specs.Effects.{Holds}
 use Rattle.desk_sql.specs.Rows.{IsMadeTo}
 use Rattle.table_load.specs.Opening.{HasNewRows}
-use Rattle.table_load.specs.OpeningSteps.{BeginsCompleted, BeginsOrdered}
 use Rattle.table_load.proofs.lemmas.Opening.{set_up_anew, set_up_as_read}
 use Rattle.table_load.proofs.finding.load_or_create.Goals as goal
 

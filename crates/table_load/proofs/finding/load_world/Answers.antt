@@ -1,5 +1,5 @@
 use Rattle.table_load.proofs.lemmas.Cut.{becomes_since, spared_becomes}
-use Rattle.table_load.specs.CutShort.{IsCompletedAs}
+use Rattle.table_load.specs.OpeningSteps.{IsCompletedAs}
 use Rattle.table_load.proofs.lemmas.Opening.{opened_since, refused_as}
 use Rattle.table_load.proofs.finding.load_world.Goals as goal
 

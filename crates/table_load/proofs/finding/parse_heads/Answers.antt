@@ -1,8 +1,7 @@
 use Rattle.std.proofs.Common.{◌≡◌, ◌∙◌, List, ap, refl, rules, sym, true≢false}
 use Rattle.sqlite_value.specs.Order.{Row}
 use Rattle.desk_sql.specs.Rows.{Tables}
-use Rattle.desk_store.specs.World.{World}
-use Rattle.desk_store.specs.Content.{IsContent}
+use Rattle.desk_store.specs.World.{World, IsContent}
 use Rattle.row_codec.specs.declared.exact.RowFault.TheVariants.{InvalidRows}
 use Rattle.table_load.specs.Opening.{AreRows}
 use Rattle.row_codec.specs.contracts.content.TableRows.{the_view}

@@ -2,8 +2,7 @@ use Rattle.std.proofs.Common.{[], ◌∷◌, ◌∙◌, arith, subst}
 use Rattle.sqlite.specs.Effect.{Database}
 use Rattle.sqlite.specs.State.{HasCleanDisk}
 use Rattle.sqlite.specs.Held.{state}
-use Rattle.desk_sql.specs.Rows.{Lists, tables_at}
-use Rattle.desk_sql.specs.Volumes.{ListVolumes}
+use Rattle.desk_sql.specs.Rows.{Lists, tables_at, ListVolumes}
 use Rattle.table_load.proofs.finding.read_heads.Goals as goal
 
 pub returns-clause-value : goal.returns-clause-value

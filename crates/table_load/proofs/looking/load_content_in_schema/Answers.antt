@@ -1,5 +1,5 @@
 use Rattle.std.proofs.Common.{Bool, subst, sym}
-use Rattle.table_load.specs.HeldContent.{AreNoContentIn, IsContentIn}
+use Rattle.table_load.specs.Moving.{AreNoContentIn, IsContentIn}
 use Rattle.table_load.specs.OpeningSteps.{IsRead}
 use Rattle.table_load.proofs.looking.load_content_in_schema.Goals as goal
 

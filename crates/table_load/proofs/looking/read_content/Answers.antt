@@ -1,6 +1,6 @@
 use Rattle.std.proofs.Common.{◌≡◌, Err}
 use Rattle.table_load.specs.declared.fault.OpenFault.TheVariants.{NotADesk}
-use Rattle.table_load.specs.HeldContent.{ShowsNone}
+use Rattle.table_load.specs.Moving.{ShowsNone}
 use Rattle.table_load.proofs.NoneShownLemmas.{none_later_shown, none_shown}
 use Rattle.table_load.proofs.lemmas.Opening.{reported_as}
 use Rattle.table_load.proofs.looking.read_content.Goals as goal

@@ -1,6 +1,6 @@
 use Rattle.std.proofs.Common.{◌≡◌}
 use Rattle.table_load.specs.declared.fault.OpenFault.TheVariants.{NotADesk}
-use Rattle.table_load.specs.HeldContent.{ShowsNone}
+use Rattle.table_load.specs.Moving.{ShowsNone}
 use Rattle.table_load.proofs.lemmas.Opening.{reported_as}
 use Rattle.table_load.proofs.looking.read_stats.Goals as goal
 

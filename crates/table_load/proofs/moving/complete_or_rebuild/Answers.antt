@@ -1,8 +1,8 @@
 use Rattle.table_load.proofs.lemmas.Cut.{remade_completes}
 use Rattle.table_load.specs.Moving.{HasNoNewRows}
 use Rattle.desk_sql.specs.Rows.{tables_at}
-use Rattle.desk_sql.specs.Finding.{Holds}
-use Rattle.desk_sql.specs.Making.{MayComplete}
+use Rattle.desk_sql.specs.Effects.{Holds}
+use Rattle.desk_sql.specs.Changing.{MayComplete}
 use Rattle.std.proofs.Common.{arith, refl, rules, ◌≡◌, subst, sym}
 use Rattle.sqlite.specs.State.{HasCleanDisk}
 use Rattle.sqlite.specs.Held.{state}

@@ -1,6 +1,6 @@
 use Rattle.std.proofs.Common.{rules, ◌≡◌, ◌∙◌}
-use Rattle.s2_cover.specs.CanonicalList.{canonical_list}
-use Rattle.volume4d.specs.Shape.{rectangle, shape_positions}
+use Rattle.s2_cover.specs.Covers.{canonical_list}
+use Rattle.volume4d.specs.Volume.{rectangle, shape_positions}
 use Rattle.table_load.proofs.lemmas.Moving.{old_rectangle}
 use Rattle.table_load.proofs.moving.is_volume_within_old_limits.Goals as goal
 

@@ -1,7 +1,7 @@
 use Rattle.table_load.proofs.lemmas.Cut.{becomes_since, becomes_weaker, spared_becomes}
-use Rattle.table_load.specs.CutShort.{IsCompletedAs, IsMovedAs, IsMovedOn}
+use Rattle.table_load.specs.OpeningSteps.{IsCompletedAs, IsMovedAs, IsMovedOn}
 use Rattle.std.proofs.Common.{Err, inl, true, rules, inr}
-use Rattle.desk_sql.specs.Finding.{Holds}
+use Rattle.desk_sql.specs.Effects.{Holds}
 use Rattle.table_load.specs.Moving.{BeginsMoved}
 use Rattle.table_load.specs.Opening.{HasRowsOld}
 use Rattle.table_load.proofs.lemmas.Opening.{opened_since, refused_as}

@@ -1,6 +1,6 @@
 use Rattle.sqlite.specs.State.{HasCleanDisk}
 use Rattle.sqlite.specs.Held.{state}
-use Rattle.table_load.specs.Writable.{AreWritable}
+use Rattle.table_load.specs.Opening.{AreWritable}
 use Rattle.table_load.proofs.OrderingLemmas.{writable_moved}
 use Rattle.std.proofs.Common.{◌≡◌, rules, subst}
 use Rattle.desk_sql.specs.Effects.{MayMake}

@@ -1,5 +1,5 @@
 use Rattle.table_load.proofs.lemmas.Cut.{moved_leaves, spared_becomes, whole_leaves}
-use Rattle.table_load.specs.CutShort.{IsMovedAs}
+use Rattle.table_load.specs.OpeningSteps.{IsMovedAs}
 use Rattle.std.proofs.Common.{IfErr, OnErr, inl, arith, ap, rules, ◌≤◌, ◌∙◌}
 use Rattle.sqlite_trees.specs.View.{doubt}
 use Rattle.sqlite.specs.Held.{state}

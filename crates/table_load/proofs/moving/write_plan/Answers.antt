@@ -2,8 +2,7 @@ use Rattle.std.proofs.Common.{◌≡◌, ◌∙◌, ap, arith, map, refl, rules,
 use Rattle.std.proofs.lemmas.List.{length-map}
 use Rattle.sqlite.specs.State.{HasCleanDisk}
 use Rattle.sqlite.specs.Held.{state}
-use Rattle.desk_changes.specs.Batches.{cover_of, span_row_in, volume_row_in}
-use Rattle.desk_changes.specs.Putting.{TakesRoom}
+use Rattle.desk_changes.specs.RowChanges.{cover_of, span_row_in, volume_row_in, TakesRoom}
 use Rattle.desk_store.specs.Changes.{filed_by}
 use Rattle.table_load.specs.Opening.{BlamesReading}
 use Rattle.row_codec.specs.Tables.{area_covers, area_rows, ArePlanSpanRows}

@@ -3,8 +3,7 @@ use Rattle.std.proofs.lemmas.List.{drop_more, take_more}
 use Rattle.sqlite.specs.State.{HasCleanDisk}
 use Rattle.sqlite.specs.Held.{state}
 use Rattle.table_load.specs.Moving.{AddsPlanRows, AddsPlansRows}
-use Rattle.table_load.specs.Opening.{BlamesReading}
-use Rattle.table_load.specs.Writable.{AreWritable}
+use Rattle.table_load.specs.Opening.{BlamesReading, AreWritable}
 use Rattle.table_load.proofs.lemmas.Moving.{begins, goes_on, no_plans, more_plans, way_on}
 use Rattle.table_load.proofs.lemmas.Opening.{blames_since, reported_as}
 use Rattle.table_load.proofs.moving.write_plans.Goals as goal

@@ -3,7 +3,7 @@ use Rattle.sqlite.specs.State.{HasCleanDisk}
 use Rattle.sqlite.specs.Held.{state}
 use Rattle.table_load.proofs.lemmas.Moving.{HasAdded}
 use Rattle.table_load.specs.Moving.{AddsPlansRows}
-use Rattle.table_load.specs.Writable.{AreWritable}
+use Rattle.table_load.specs.Opening.{AreWritable}
 use Rattle.table_load.proofs.moving.write_plans.Given as goal
 
 -- the rows of the plans so far were added, and those of the others can be, if all could

@@ -1,6 +1,6 @@
 use Rattle.std.proofs.Common.{◌≤◌, [], rules, refl, sym, true≢false}
 use Rattle.desk_rules.specs.Limits.{max_priority}
-use Rattle.row_codec.specs.Gathering.{plan_with}
+use Rattle.row_codec.specs.RowsRead.{plan_with}
 use Rattle.table_load.proofs.NamingLemmas.{head_is, not_keyed}
 use Rattle.table_load.proofs.naming.check_plan_row.Goals as goal
 

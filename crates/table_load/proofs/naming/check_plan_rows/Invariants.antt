@@ -1,5 +1,5 @@
 use Rattle.std.proofs.Common.{length}
-use Rattle.table_load.specs.Naming.{IsPlanHead}
+use Rattle.table_load.specs.OpeningSteps.{IsPlanHead}
 use Rattle.table_load.proofs.lemmas.Moving.{AllIf}
 use Rattle.table_load.proofs.naming.check_plan_rows.Given as goal
 

@@ -1,6 +1,6 @@
 use Rattle.std.proofs.Common.{List}
 use Rattle.sqlite_value.specs.Order.{Row}
-use Rattle.table_load.specs.Naming.{AreGoodHeads}
+use Rattle.table_load.specs.OpeningSteps.{AreGoodHeads}
 use Rattle.table_load.specs.SpanChecks.{HasChecked}
 use Rattle.table_load.proofs.HeadLemmas.{of_plans}
 use Rattle.table_load.proofs.NamedLemmas.{spans_named}

@@ -1,5 +1,5 @@
 use Rattle.table_load.proofs.lemmas.Cut.{ordered_leaves, spared_becomes}
-use Rattle.table_load.specs.CutShort.{IsCompletedAs}
+use Rattle.table_load.specs.OpeningSteps.{IsCompletedAs}
 use Rattle.std.proofs.Common.{IfErr, ap, ◌∙◌, rules}
 use Rattle.desk_store.specs.World.{World}
 use Rattle.table_load.specs.Opening.{BlamesReading}

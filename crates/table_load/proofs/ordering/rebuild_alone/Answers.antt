@@ -1,5 +1,5 @@
 use Rattle.table_load.proofs.lemmas.Cut.{transaction_leaves}
-use Rattle.desk_sql.specs.Unpacking.{RemakesTables}
+use Rattle.desk_sql.specs.Changing.{RemakesTables}
 use Rattle.desk_sql.specs.Effects.{MayMake}
 use Rattle.std.proofs.Common.{◌≡◌, rules, subst}
 use Rattle.table_load.proofs.ordering.rebuild_alone.Goals as goal

@@ -1,10 +1,10 @@
 use Rattle.sqlite.specs.State.{HasCleanDisk}
 use Rattle.sqlite.specs.Held.{state}
-use Rattle.table_load.specs.Writable.{AreWritable}
+use Rattle.table_load.specs.Opening.{AreWritable}
 use Rattle.table_load.proofs.OrderingLemmas.{writable_anew}
 use Rattle.std.proofs.Common.{◌≡◌, rules, subst}
 use Rattle.desk_sql.specs.Effects.{MayMake}
-use Rattle.desk_sql.specs.Unpacking.{RemakesTables}
+use Rattle.desk_sql.specs.Changing.{RemakesTables}
 use Rattle.table_load.specs.Moving.{AddsPlansRows, OrdersRows}
 use Rattle.table_load.proofs.lemmas.Cut.{both_leave, orders_rows}
 use Rattle.table_load.proofs.ordering.reorder_tables.Goals as goal

@@ -1,10 +1,8 @@
 use Rattle.std.proofs.Common.{ap, sym, subst, ◌∙◌}
 use Rattle.sqlite_wal.specs.Files.{image_at}
 use Rattle.sqlite.specs.Files.{over_files}
-use Rattle.table_load.specs.Files.{AreRefused, OpensIn}
-use Rattle.table_load.specs.LyingDisk.{IsGuarded}
-use Rattle.table_load.specs.Leaving.{IsSettledAt}
-use Rattle.uss_desk.specs.Rolls.{HasNoted}
+use Rattle.table_load.specs.Files.{AreRefused, OpensIn, IsGuarded, IsSettledAt}
+use Rattle.uss_desk.specs.OpenedFor.{HasNoted}
 use Rattle.desk_admin.proofs.UnopenedLemmas.{fails_over}
 use Rattle.uss_desk.proofs.opening.open_file.Goals as goal
 

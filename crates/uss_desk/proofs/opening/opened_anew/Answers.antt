@@ -1,5 +1,5 @@
 use Rattle.std.proofs.Common.{ap, sym, subst}
-use Rattle.uss_desk.specs.Rolls.{HasNoted}
+use Rattle.uss_desk.specs.OpenedFor.{HasNoted}
 use Rattle.uss_desk.proofs.opening.opened_anew.Goals as goal
 
 pub returns-clause-noted : goal.returns-clause-noted

@@ -1,5 +1,5 @@
 use Rattle.std.proofs.Common.{◌≡◌, ◌++◌, drop, map}
-use Rattle.uss_desk.specs.Rolls.{as_listed}
+use Rattle.uss_desk.specs.OpenedFor.{as_listed}
 use Rattle.uss_desk.proofs.rolls.enrolments_of.Given as goal
 
 -- those so far, and those that are left, are all

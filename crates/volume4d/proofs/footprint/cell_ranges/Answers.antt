@@ -1,6 +1,6 @@
 use Rattle.std.proofs.Common.{arith, ◌≡◌, true, ◌<◌, ◌≤◌, length, refl}
 use Rattle.std.proofs.lemmas.Bool.Decides.{nat_tests}
-use Rattle.s2_cover.specs.Leaves.{leaves_of}
+use Rattle.s2_cover.specs.Covers.{leaves_of}
 use Rattle.volume4d.specs.VolumeLimits.{max_cells, within_cells}
 use Rattle.volume4d.proofs.FootprintRanges.{cell_ranges}
 use Rattle.volume4d.proofs.footprint.cell_ranges.Goals as goal

@@ -1,6 +1,6 @@
 use Rattle.std.proofs.Common.{◌∙◌, ap, get_or}
 use Rattle.std.specs.Result.{result_ok}
-use Rattle.s2_cover.specs.Rectangles.{RectParts}
+use Rattle.s2_cover.specs.Covers.{RectParts}
 use Rattle.volume4d.proofs.RectReadings.{read_rect}
 use Rattle.volume4d.proofs.footprint.rect_in.Goals as goal
 

@@ -2,8 +2,7 @@ use Rattle.std.proofs.Common.{length, subst}
 use Rattle.std.proofs.lemmas.Bool.Decides.{nat_tests}
 use Rattle.std.proofs.Common.{arith, ◌≤◌}
 use Rattle.volume4d.specs.VolumeLimits.{max_cover}
-use Rattle.s2_cover.specs.CanonicalList.{canonical_list}
-use Rattle.s2_cover.specs.Rectangles.{rect_leaves}
+use Rattle.s2_cover.specs.Covers.{canonical_list, rect_leaves}
 use Rattle.volume4d.proofs.FootprintRanges.{rectangle_ranges}
 use Rattle.volume4d.proofs.footprint.rect_ranges.Goals as goal
 

@@ -1,6 +1,6 @@
 use Rattle.std.proofs.Common.{◌≤◌, length, take}
 use Rattle.std.specs.Prelude.{All}
-use Rattle.volume4d.specs.Lanes.{HaveAllLeft, IsCovered}
+use Rattle.volume4d.specs.Sweep.{HaveAllLeft, IsCovered}
 use Rattle.volume4d.proofs.sweep.fill_lanes.Given as goal
 
 -- each slab so far has a lane

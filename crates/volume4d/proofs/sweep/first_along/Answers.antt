@@ -1,9 +1,8 @@
 use Rattle.std.proofs.Common.{◌≡◌, ◌≤◌, ◌&&◌, refl, sym, subst}
 use Rattle.s2_hilbert.specs.Curve.{position_of}
-use Rattle.volume4d.specs.Point.{Point}
+use Rattle.volume4d.specs.Volume.{Point}
 use Rattle.volume4d.specs.Slab.{slab_has}
-use Rattle.volume4d.specs.Sweep.{AddsFirst}
-use Rattle.volume4d.specs.Lanes.{lanes_have}
+use Rattle.volume4d.specs.Sweep.{AddsFirst, lanes_have}
 use Rattle.volume4d.proofs.LaneLemmas.{sweep_goes_on, sweep_stops}
 use Rattle.volume4d.proofs.sweep.first_along.Goals as goal
 

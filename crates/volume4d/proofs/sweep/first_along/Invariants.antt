@@ -1,4 +1,4 @@
-use Rattle.volume4d.specs.Lanes.{lanes_have}
+use Rattle.volume4d.specs.Sweep.{lanes_have}
 use Rattle.volume4d.proofs.LaneLemmas.{IsSweeping}
 use Rattle.volume4d.proofs.sweep.first_along.Given as goal
 

@@ -1,7 +1,6 @@
 use Rattle.std.proofs.Common.{◌&&◌, take, subst}
 use Rattle.volume4d.specs.Slab.{slab_has, slabs_have}
-use Rattle.volume4d.specs.Meeting.{IsFirstPoint}
-use Rattle.volume4d.specs.Sweep.{items_have}
+use Rattle.volume4d.specs.Sweep.{IsFirstPoint, items_have}
 use Rattle.volume4d.proofs.Sweeping.{one_more_of_theirs}
 use Rattle.volume4d.proofs.sweep.first_of_all_pairs.Goals as goal
 

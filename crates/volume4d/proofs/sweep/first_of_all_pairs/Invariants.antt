@@ -1,7 +1,6 @@
 use Rattle.std.proofs.Common.{◌&&◌, take}
 use Rattle.volume4d.specs.Slab.{slabs_have}
-use Rattle.volume4d.specs.Meeting.{IsFirstPoint}
-use Rattle.volume4d.specs.Sweep.{items_have}
+use Rattle.volume4d.specs.Sweep.{IsFirstPoint, items_have}
 use Rattle.volume4d.proofs.sweep.first_of_all_pairs.Given as goal
 
 -- the first point shared with those so far

@@ -1,6 +1,6 @@
 use Rattle.std.proofs.Common.{◌&&◌, take}
 use Rattle.volume4d.specs.Slab.{slab_has, slabs_have}
-use Rattle.volume4d.specs.Meeting.{IsFirstPoint}
+use Rattle.volume4d.specs.Sweep.{IsFirstPoint}
 use Rattle.volume4d.proofs.sweep.first_shared_with.Given as goal
 
 -- the first point that the slabs so far share with the other

@@ -1,6 +1,5 @@
 use Rattle.std.proofs.Common.{length}
-use Rattle.volume4d.specs.Sweep.{Ascend}
-use Rattle.volume4d.specs.Lanes.{KeepsFrom}
+use Rattle.volume4d.specs.Sweep.{Ascend, KeepsFrom}
 use Rattle.volume4d.proofs.sweep.without_skipped.Given as goal
 
 abbrev pub invariant-loop-slab : goal.invariant-loop-slab

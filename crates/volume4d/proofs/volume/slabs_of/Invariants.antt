@@ -1,5 +1,5 @@
 use Rattle.std.proofs.Common.{take}
-use Rattle.volume4d.specs.Slabs.{AreSlabsOn}
+use Rattle.volume4d.specs.Slab.{AreSlabsOn}
 use Rattle.volume4d.proofs.volume.slabs_of.Given as goal
 
 -- the slabs of the spans so far

@@ -1,9 +1,8 @@
 use Rattle.std.proofs.Common.{◌<◌, length, subst, sym}
 use Rattle.std.specs.Prelude.{All}
 use Rattle.std.proofs.lemmas.Result.{IfOk-weaker}
-use Rattle.s2_cover.specs.Ranges.{IsSpan, IsRanges}
-use Rattle.volume4d.specs.Shape.{shape_positions}
-use Rattle.volume4d.specs.Volume.{Block}
+use Rattle.s2_cover.specs.Covers.{IsSpan, IsRanges}
+use Rattle.volume4d.specs.Volume.{shape_positions, Block}
 use Rattle.volume4d.proofs.SlabPoints.{volume_points, volume_slabs}
 use Rattle.volume4d.proofs.Filled.{filled_on}
 use Rattle.volume4d.proofs.volume.slabs_over.Goals as goal

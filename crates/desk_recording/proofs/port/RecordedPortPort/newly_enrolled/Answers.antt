@@ -1,6 +1,6 @@
 use Rattle.std.proofs.Common.{true, subst}
 use Rattle.desk_program.specs.Serving.{BringsEnrolments, AddsNothingNew}
-use Rattle.desk_recording.specs.Reporting.{reported_by}
+use Rattle.desk_recording.specs.Inputs.{reported_by}
 use Rattle.desk_recording.proofs.StepLemmas.{brings_enrolments, no_news}
 use Rattle.desk_recording.proofs.port.RecordedPortPort.newly_enrolled.Goals as goal
 

@@ -1,6 +1,6 @@
 use Rattle.std.proofs.Common.{Some, subst, true}
 use Rattle.desk_program.specs.Serving.{AddsNothingNew, TakesArrival, arrived}
-use Rattle.desk_recording.specs.Reporting.{reported_by}
+use Rattle.desk_recording.specs.Inputs.{reported_by}
 use Rattle.desk_recording.proofs.StepLemmas.{none_taken, takes_one}
 use Rattle.desk_recording.proofs.port.RecordedPortPort.take.Goals as goal
 

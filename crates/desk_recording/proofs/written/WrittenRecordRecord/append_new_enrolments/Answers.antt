@@ -1,7 +1,7 @@
 use Rattle.std.proofs.Common.{refl, map}
 use Rattle.std.specs.Result.{is_ok}
 use Rattle.desk_record.specs.Record.{entries}
-use Rattle.desk_program.specs.Recorded.{operator_entry, with_news}
+use Rattle.desk_program.specs.Enrolling.{operator_entry, with_news}
 use Rattle.desk_recording.proofs.WritingLemmas.{notes_synced}
 use Rattle.desk_recording.proofs.written.WrittenRecordRecord.append_new_enrolments.Goals as goal
 

@@ -2,7 +2,7 @@ use Rattle.std.proofs.Common.{◌≡◌, ◌∙◌, ◌++◌, ap, nat_abs, subst
 use Rattle.std.specs.Result.{is_ok}
 use Rattle.io_ends.proofs.lemmas.Moment.{same_moment}
 use Rattle.desk_record.specs.Record.{entry}
-use Rattle.desk_program.specs.Recorded.{request_entry, with_request}
+use Rattle.desk_program.specs.Enrolling.{request_entry, with_request}
 use Rattle.desk_recording.specs.RecordWrites.{AppendsKnown}
 use Rattle.desk_recording.proofs.WritingLemmas.{notes_synced, request_noted}
 use Rattle.desk_recording.proofs.written.WrittenRecordRecord.append_request.Goals as goal

@@ -4,7 +4,7 @@ use Rattle.std.proofs.lemmas.Result.{on_ok_weaker}
 use Rattle.desk_store.proofs.lemmas.Fault.{was_honest}
 use Rattle.desk_run.specs.Calls.{IsPending, world_committed}
 use Rattle.desk_run.proofs.lemmas.Crash.{leaves_after}
-use Rattle.desk_run.specs.DeskWorld.{world_of}
+use Rattle.desk_run.specs.Verdicts.{world_of}
 use Rattle.desk_run.proofs.desk.Desk.call.Goals as goal
 
 pub returns-clause-ok : goal.returns-clause-ok

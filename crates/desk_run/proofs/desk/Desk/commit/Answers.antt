@@ -1,7 +1,7 @@
 use Rattle.std.proofs.Common.{◌≡◌, ◌∙◌, None, ap, arith, refl, rules}
-use Rattle.desk_store.specs.StoreChange.{changed_by}
+use Rattle.desk_store.specs.Changes.{changed_by}
 use Rattle.desk_run.specs.Calls.{world_committed}
-use Rattle.desk_run.specs.DeskWorld.{with_content}
+use Rattle.desk_run.specs.Verdicts.{with_content}
 use Rattle.desk_run.proofs.lemmas.Crash.{leaves_read}
 use Rattle.desk_run.proofs.DeskLemmas.{leaves_failed, leaves_made, no_fault}
 use Rattle.desk_run.proofs.desk.Desk.commit.Goals as goal

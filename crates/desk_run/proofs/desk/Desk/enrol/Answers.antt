@@ -1,8 +1,7 @@
 use Rattle.std.proofs.Common.{◌∙◌, ap, arith}
 use Rattle.std.proofs.lemmas.Result.{err_from_is_err_and}
-use Rattle.desk_store.specs.Changes.{with_operator}
-use Rattle.desk_store.specs.StoreChange.{changed_by, IsFitting}
-use Rattle.desk_run.specs.DeskWorld.{enrolled, with_content, world_of}
+use Rattle.desk_store.specs.Changes.{with_operator, changed_by, IsFitting}
+use Rattle.desk_run.specs.Verdicts.{enrolled, with_content, world_of}
 use Rattle.desk_run.proofs.DeskLemmas.{leaves_failed, leaves_made}
 use Rattle.desk_run.proofs.FaultLemmas.{never_ceiling}
 use Rattle.desk_run.proofs.desk.Desk.enrol.Goals as goal

@@ -1,6 +1,6 @@
 use Rattle.std.proofs.Common.{◌≡◌, ◌∷◌, [], take}
 use Rattle.volume4d.specs.Volume.{Block}
-use Rattle.desk_rules.specs.Bridge.{AreSlabsOf}
+use Rattle.desk_rules.specs.Conflict.{AreSlabsOf}
 use Rattle.desk_run.specs.Calls.{ids_in}
 use Rattle.desk_run.proofs.pending.clear.ids_sharing_point.Given as goal
 

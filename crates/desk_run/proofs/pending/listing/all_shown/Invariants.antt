@@ -1,5 +1,5 @@
 use Rattle.std.proofs.Common.{◌≡◌, ℕ, Option, map, take}
-use Rattle.volume4d.specs.Point.{Point}
+use Rattle.volume4d.specs.Volume.{Point}
 use Rattle.desk_run.specs.HeldAmong.{HaveLevelAt, some_hold}
 use Rattle.desk_run.specs.Verdicts.{shown_plan}
 use Rattle.desk_run.proofs.pending.listing.all_shown.Given as goal

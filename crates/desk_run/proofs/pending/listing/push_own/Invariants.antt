@@ -1,9 +1,8 @@
 use Rattle.std.proofs.Common.{◌≡◌, true, drop}
-use Rattle.volume4d.specs.Point.{Point}
-use Rattle.volume4d.specs.Slab.{top_held}
-use Rattle.volume4d.specs.Level.{greater}
+use Rattle.volume4d.specs.Volume.{Point}
+use Rattle.volume4d.specs.Slab.{top_held, greater}
 use Rattle.desk_rules.specs.Conflict.{at_least}
-use Rattle.desk_rules.specs.Plan.{row_holds}
+use Rattle.desk_rules.specs.Outcome.{row_holds}
 use Rattle.desk_run.specs.HeldAmong.{own_top}
 use Rattle.desk_run.proofs.pending.listing.push_own.Given as goal
 

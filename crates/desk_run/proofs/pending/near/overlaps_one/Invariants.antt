@@ -1,5 +1,5 @@
 use Rattle.std.proofs.Common.{◌≡◌, false, take, true}
-use Rattle.volume4d.specs.Point.{Point}
+use Rattle.volume4d.specs.Volume.{Point}
 use Rattle.volume4d.specs.Slab.{slab_has, slabs_have}
 use Rattle.desk_run.proofs.pending.near.overlaps_one.Given as goal
 

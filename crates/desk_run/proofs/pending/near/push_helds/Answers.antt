@@ -1,6 +1,5 @@
 use Rattle.std.proofs.Common.{◌∙◌, ap, None}
-use Rattle.volume4d.specs.Level.{level_where}
-use Rattle.volume4d.specs.Slab.{slab_has, top_held}
+use Rattle.volume4d.specs.Slab.{level_where, slab_has, top_held}
 use Rattle.desk_rules.specs.Conflict.{at_least}
 use Rattle.desk_run.proofs.ListingLemmas.{at_mine, begin_level, held_adds, held_passed, none_without}
 use Rattle.desk_run.proofs.pending.near.push_helds.Goals as goal

@@ -1,7 +1,6 @@
 use Rattle.std.proofs.Common.{◌≡◌, true, take}
-use Rattle.volume4d.specs.Point.{Point}
-use Rattle.volume4d.specs.Slab.{slabs_have, top_held}
-use Rattle.volume4d.specs.Level.{greater}
+use Rattle.volume4d.specs.Volume.{Point}
+use Rattle.volume4d.specs.Slab.{slabs_have, top_held, greater}
 use Rattle.volume4d.specs.Sweep.{Ascend}
 use Rattle.desk_rules.specs.Conflict.{at_least}
 use Rattle.desk_run.specs.HeldAmong.{AreLeft}

@@ -1,7 +1,6 @@
 use Rattle.std.proofs.Common.{◌≡◌, true, take}
-use Rattle.volume4d.specs.Point.{Point}
-use Rattle.volume4d.specs.Slab.{slabs_have, top_held}
-use Rattle.volume4d.specs.Level.{greater, level_where}
+use Rattle.volume4d.specs.Volume.{Point}
+use Rattle.volume4d.specs.Slab.{slabs_have, top_held, greater, level_where}
 use Rattle.volume4d.specs.Sweep.{Ascend}
 use Rattle.desk_run.specs.HeldAmong.{AreLeft}
 use Rattle.desk_run.proofs.pending.near.push_slabs.Given as goal

@@ -1,6 +1,5 @@
 use Rattle.std.proofs.Common.{◌≡◌, ◌<◌, get_or, length, subst}
-use Rattle.volume4d.specs.Bounds.{IsBounds}
-use Rattle.volume4d.specs.Slab.{slabs_have}
+use Rattle.volume4d.specs.Slab.{IsBounds, slabs_have}
 use Rattle.desk_run.proofs.ListingLemmas.{parts_more}
 use Rattle.desk_run.proofs.pending.own.parts_of.Goals as goal
 

@@ -1,7 +1,6 @@
 use Rattle.std.proofs.Common.{◌≡◌, ◌||◌, true, length, All}
-use Rattle.volume4d.specs.Bounds.{IsFilled}
-use Rattle.volume4d.specs.Point.{Point}
-use Rattle.volume4d.specs.Slab.{slabs_have}
+use Rattle.volume4d.specs.Slab.{IsFilled, slabs_have}
+use Rattle.volume4d.specs.Volume.{Point}
 use Rattle.volume4d.specs.Sweep.{Ascend}
 use Rattle.desk_run.specs.HeldAmong.{Keep}
 use Rattle.desk_run.proofs.pending.own.push_clusters.Given as goal

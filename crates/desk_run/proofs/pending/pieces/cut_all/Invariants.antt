@@ -1,5 +1,5 @@
 use Rattle.std.proofs.Common.{◌≡◌, take, drop}
-use Rattle.desk_run.specs.Pieces.{AreCut}
+use Rattle.desk_run.specs.HeldAmong.{AreCut}
 use Rattle.desk_run.proofs.pending.pieces.cut_all.Given as goal
 
 -- the held slabs so far are cut, and the others are what they were

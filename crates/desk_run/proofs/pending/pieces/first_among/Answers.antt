@@ -1,8 +1,7 @@
 use Rattle.std.proofs.Common.{refl, sym, ◌∙◌, subst, arith}
 use Rattle.std.proofs.lemmas.Result.{IfOk-weaker}
 use Rattle.desk_store.specs.World.{plans_of, held, held_at}
-use Rattle.desk_run.specs.Pieces.{IsFirstBlockedAt}
-use Rattle.desk_run.specs.ConflictParts.{IsFirstAmong}
+use Rattle.desk_run.specs.HeldAmong.{IsFirstBlockedAt, IsFirstAmong}
 use Rattle.desk_run.proofs.PieceLemmas.{NoneBlockedBefore, begins, met, passed, ended}
 use Rattle.desk_run.proofs.pending.pieces.first_among.Goals as goal
 

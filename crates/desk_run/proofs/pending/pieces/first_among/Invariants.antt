@@ -1,7 +1,6 @@
 use Rattle.std.proofs.Common.{◌≡◌, ◌≤◌, ◌-◌}
-use Rattle.desk_store.specs.Crashes.{LeavesNoMore}
-use Rattle.desk_store.specs.StoreFaults.{IsHonest}
-use Rattle.desk_store.specs.World.{plans_of, held, held_at}
+use Rattle.desk_store.specs.World.{LeavesNoMore, plans_of, held, held_at}
+use Rattle.desk_store.specs.Changes.{IsHonest}
 use Rattle.desk_run.proofs.PieceLemmas.{NoneBlockedBefore}
 use Rattle.desk_run.proofs.pending.pieces.first_among.Given as goal
 

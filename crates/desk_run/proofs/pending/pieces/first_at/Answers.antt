@@ -1,9 +1,9 @@
 use Rattle.std.proofs.Common.{ap, ◌∙◌, arith}
 use Rattle.volume4d.specs.Slab.{slabs_have, top_held}
 use Rattle.desk_rules.specs.Conflict.{at_least}
-use Rattle.desk_rules.specs.Permission.{least_blocking}
+use Rattle.desk_rules.specs.Limits.{least_blocking}
 use Rattle.desk_store.specs.World.{plans_of, held, held_at}
-use Rattle.desk_run.specs.Pieces.{at_piece}
+use Rattle.desk_run.specs.HeldAmong.{at_piece}
 use Rattle.desk_run.proofs.PieceLemmas.{held_at_piece, written}
 use Rattle.desk_run.proofs.pending.pieces.first_at.Goals as goal
 

@@ -1,6 +1,6 @@
 use Rattle.std.proofs.Common.{take}
 use Rattle.volume4d.specs.Slab.{slabs_have}
-use Rattle.desk_run.specs.Pieces.{HavePart}
+use Rattle.desk_run.specs.HeldAmong.{HavePart}
 use Rattle.desk_run.proofs.pending.windows.extents_in.Given as goal
 
 -- the extents have the points of the slabs so far

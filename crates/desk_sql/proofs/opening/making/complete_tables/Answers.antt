@@ -2,7 +2,7 @@ use Rattle.std.proofs.Common.{◌≡◌, rules, arith, subst, OnOk}
 use Rattle.std.proofs.lemmas.Result.{on_ok_weaker}
 use Rattle.sqlite.specs.State.{HasCleanDisk}
 use Rattle.sqlite.specs.Held.{state}
-use Rattle.desk_sql.specs.Making.{Completes, MayComplete}
+use Rattle.desk_sql.specs.Changing.{Completes, MayComplete}
 use Rattle.desk_sql.proofs.CreateLemmas.{completed, may_complete}
 use Rattle.desk_sql.proofs.opening.making.complete_tables.Goals as goal
 

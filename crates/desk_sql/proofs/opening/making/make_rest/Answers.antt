@@ -1,8 +1,8 @@
 use Rattle.std.proofs.Common.{arith, rules, ◌∙◌, inr, IsTrue}
 use Rattle.sqlite.specs.State.{HasCleanDisk}
 use Rattle.sqlite.specs.Held.{state}
-use Rattle.desk_sql.specs.Making.{HasSmallSpans}
-use Rattle.desk_sql.specs.Refusals.{IsRefusal}
+use Rattle.desk_sql.specs.Changing.{HasSmallSpans}
+use Rattle.desk_sql.specs.Statements.{IsRefusal}
 use Rattle.desk_sql.specs.Rows.{tables_at}
 use Rattle.desk_sql.proofs.CreateLemmas.{grows, grown_more, finished}
 use Rattle.desk_sql.proofs.StepStops.{step_refused}

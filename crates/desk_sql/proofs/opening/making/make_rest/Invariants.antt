@@ -1,6 +1,6 @@
 use Rattle.std.proofs.Common.{◌≡◌, ◌≢◌}
 use Rattle.desk_sql.specs.declared.opening.finding.TablesPresent.TheVariants.{Packed}
-use Rattle.desk_sql.specs.Making.{left_to_make}
+use Rattle.desk_sql.specs.Changing.{left_to_make}
 use Rattle.desk_sql.specs.Effects.{StaysOpen}
 use Rattle.desk_sql.proofs.CreateLemmas.{HasGrown}
 use Rattle.desk_sql.proofs.opening.making.make_rest.Given as goal

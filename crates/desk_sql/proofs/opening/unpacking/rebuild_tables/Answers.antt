@@ -3,9 +3,9 @@ use Rattle.sqlite.specs.Effect.{IsDatabase}
 use Rattle.sqlite.specs.Held.{state}
 use Rattle.sqlite.specs.State.{HasCleanDisk}
 use Rattle.desk_sql.specs.declared.opening.finding.TablesPresent.TheVariants.{Packed}
-use Rattle.desk_sql.specs.Finding.{Holds}
-use Rattle.desk_sql.specs.Making.{HasSmallSpans}
-use Rattle.desk_sql.specs.Refusals.{IsRefusal}
+use Rattle.desk_sql.specs.Effects.{Holds}
+use Rattle.desk_sql.specs.Changing.{HasSmallSpans}
+use Rattle.desk_sql.specs.Statements.{IsRefusal}
 use Rattle.desk_sql.specs.Rows.{tables_at}
 use Rattle.desk_sql.proofs.DropStops.{remaking_refused}
 use Rattle.desk_sql.proofs.opening.unpacking.rebuild_tables.Goals as goal

@@ -2,10 +2,10 @@ use Rattle.std.proofs.Common.{◌∙◌, arith, refl, rules, IsTrue}
 use Rattle.sqlite.specs.Held.{state}
 use Rattle.sqlite.specs.Effect.{IsDatabase}
 use Rattle.sqlite.specs.State.{HasCleanDisk}
-use Rattle.desk_sql.specs.Finding.{Holds}
+use Rattle.desk_sql.specs.Effects.{Holds}
 use Rattle.desk_sql.specs.Schema.{packed_schema, old_table_schema}
-use Rattle.desk_sql.specs.Refusals.{IsRefusal}
-use Rattle.desk_sql.specs.Unpacking.{loose_schema, spanless_schema, Unpacks}
+use Rattle.desk_sql.specs.Statements.{IsRefusal}
+use Rattle.desk_sql.specs.Changing.{loose_schema, spanless_schema, Unpacks}
 use Rattle.desk_sql.proofs.DropLemmas.{shrinks, unpacked}
 use Rattle.desk_sql.proofs.DropStops.{drop_refused}
 use Rattle.desk_sql.proofs.opening.unpacking.unpack.Goals as goal

@@ -2,15 +2,13 @@ use Rattle.std.proofs.Common.{arith, rules, IsTrue}
 use Rattle.sqlite.specs.Values.{bound}
 use Rattle.sqlite.specs.State.{HasCleanDisk}
 use Rattle.sqlite.specs.Held.{state}
-use Rattle.desk_sql.specs.Effects.{Spares, StaysShown}
-use Rattle.desk_sql.specs.Frames.{OnlyReads}
+use Rattle.desk_sql.specs.Effects.{Spares, StaysShown, OnlyReads}
 use Rattle.desk_sql.specs.Rows.{tables_of, Lists}
 use Rattle.desk_sql.specs.Queries.{params_of, order_of, rows_of}
-use Rattle.desk_sql.specs.Statements.{Selects}
+use Rattle.desk_sql.specs.Statements.{Selects, IsRefusal}
 use Rattle.desk_sql.proofs.lemmas.Read.{open_if, if_either, unprepared, selected}
 use Rattle.desk_sql.proofs.StatementLemmas.{if_shown}
 use Rattle.desk_sql.proofs.lemmas.Leaving.{shown_after, kept_by_query, spared_after, reads_unprepared, reads_prepared}
-use Rattle.desk_sql.specs.Refusals.{IsRefusal}
 use Rattle.desk_sql.proofs.HandLemmas.{refused_given}
 use Rattle.desk_sql.proofs.AskLemmas.{plain_if, refused_unprepared, sure_here}
 use Rattle.desk_sql.proofs.reading.answer.query_rows.Goals as goal

@@ -1,9 +1,8 @@
 use Rattle.std.proofs.Common.{[], rules, arith, IsTrue}
 use Rattle.sqlite.specs.State.{HasCleanDisk}
 use Rattle.sqlite.specs.Held.{state}
-use Rattle.desk_sql.specs.Effects.{Spares, StaysShown}
-use Rattle.desk_sql.specs.Frames.{OnlyReads}
-use Rattle.desk_sql.specs.Refusals.{IsRefusal}
+use Rattle.desk_sql.specs.Effects.{Spares, StaysShown, OnlyReads}
+use Rattle.desk_sql.specs.Statements.{IsRefusal}
 use Rattle.desk_sql.proofs.lemmas.Read.{open_after, open_if, if_either, sure_plain, unprepared}
 use Rattle.desk_sql.proofs.AskLemmas.{refused_unprepared, refused_after}
 use Rattle.desk_sql.proofs.lemmas.Leaving.{shown_after, kept_by_query, spared_after, reads_unprepared, reads_prepared}

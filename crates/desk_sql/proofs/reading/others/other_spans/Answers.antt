@@ -1,8 +1,7 @@
 use Rattle.std.proofs.Common.{[], ◌∷◌, filter, map, IsPermutation, w64}
 use Rattle.std.proofs.lemmas.Int.{to_z-of_z}
 use Rattle.sqlite.specs.Held.{state}
-use Rattle.desk_sql.specs.Rows.{columns_from_first, tables_of, Lists}
-use Rattle.desk_sql.specs.Others.{is_others_from}
+use Rattle.desk_sql.specs.Rows.{columns_from_first, tables_of, Lists, is_others_from}
 use Rattle.desk_sql.proofs.HandLemmas.{cut_short_of}
 use Rattle.desk_sql.proofs.TakingLemmas.{handed_as}
 use Rattle.desk_sql.proofs.reading.others.other_spans.Goals as goal

@@ -1,7 +1,6 @@
 use Rattle.std.proofs.Common.{[], filter, map, IsPermutation}
 use Rattle.sqlite.specs.Held.{state}
-use Rattle.desk_sql.specs.Rows.{columns_from_first, tables_of, Lists}
-use Rattle.desk_sql.specs.Others.{is_plan_span}
+use Rattle.desk_sql.specs.Rows.{columns_from_first, tables_of, Lists, is_plan_span}
 use Rattle.desk_sql.proofs.HandLemmas.{cut_short_of}
 use Rattle.desk_sql.proofs.TakingLemmas.{handed_as}
 use Rattle.desk_sql.proofs.reading.plans.plan_spans.Goals as goal

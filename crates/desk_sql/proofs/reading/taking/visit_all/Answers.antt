@@ -3,7 +3,7 @@ use Rattle.sqlite.specs.declared.error.Error.TheVariants.{SqliteFailure}
 use Rattle.sqlite.specs.declared.error.ErrorCode.TheVariants.{TooBig}
 use Rattle.sqlite.specs.Held.{state}
 use Rattle.sqlite.specs.State.{HasCleanDisk}
-use Rattle.desk_sql.specs.Taking.{FailsToHandAll, HandsAll, IsLeft}
+use Rattle.desk_sql.specs.Queries.{FailsToHandAll, HandsAll, IsLeft}
 use Rattle.desk_sql.proofs.TakingLemmas.{begins, goes_on, ends, is_left, fails_now, on_err, too_many}
 use Rattle.desk_sql.proofs.lemmas.Leaving.{remembers_itself, remembers_then}
 use Rattle.desk_sql.proofs.reading.taking.visit_all.Goals as goal

@@ -1,7 +1,6 @@
 use Rattle.std.proofs.Common.{◌≡◌, false}
-use Rattle.desk_sql.specs.Frames.{Remembers}
-use Rattle.desk_sql.specs.Takers.{KeepsOn}
-use Rattle.desk_sql.specs.Taking.{TakesOn}
+use Rattle.desk_sql.specs.Effects.{Remembers}
+use Rattle.desk_sql.specs.Queries.{KeepsOn, TakesOn}
 use Rattle.desk_sql.proofs.TakingLemmas.{IsUnderWay}
 use Rattle.desk_sql.proofs.reading.taking.visit_all.Given as goal
 

@@ -2,7 +2,7 @@ use Rattle.std.proofs.Common.{List, IfErr, rules}
 use Rattle.sqlite.specs.Held.{state}
 use Rattle.sqlite.specs.Order.{Row}
 use Rattle.sqlite.specs.State.{HasCleanDisk}
-use Rattle.desk_sql.specs.Taking.{FailsNext}
+use Rattle.desk_sql.specs.Queries.{FailsNext}
 use Rattle.desk_sql.proofs.TakingLemmas.{on_err, refused_next}
 use Rattle.desk_sql.proofs.reading.taking.visit_next.Goals as goal
 

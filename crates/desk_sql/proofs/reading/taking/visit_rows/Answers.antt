@@ -3,10 +3,9 @@ use Rattle.sqlite.specs.Values.{bound}
 use Rattle.sqlite.specs.Order.{Row}
 use Rattle.sqlite.specs.State.{HasCleanDisk, Shown}
 use Rattle.sqlite.specs.Held.{state}
-use Rattle.desk_sql.specs.Effects.{Spares, StaysShown}
-use Rattle.desk_sql.specs.Frames.{OnlyReads}
-use Rattle.desk_sql.specs.Refusals.{IsRefusal}
-use Rattle.desk_sql.specs.Taking.{IsTakenInPart}
+use Rattle.desk_sql.specs.Effects.{Spares, StaysShown, OnlyReads}
+use Rattle.desk_sql.specs.Statements.{IsRefusal}
+use Rattle.desk_sql.specs.Queries.{IsTakenInPart}
 use Rattle.desk_sql.proofs.AskLemmas.{plain_if, refused_unprepared}
 use Rattle.desk_sql.proofs.HandLemmas.{cut_short, refused_begun}
 use Rattle.desk_sql.proofs.lemmas.Leaving.{begun_after, plain_text, was_prepared, handed_after, kept_after, kept_refused, spared_handed, reads_unprepared, reads_prepared, reads_handed}

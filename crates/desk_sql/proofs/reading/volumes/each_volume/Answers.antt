@@ -2,10 +2,9 @@ use Rattle.std.proofs.Common.{◌≡◌, List, [], arith, sym, ◌∙◌, ap, tr
 use Rattle.sqlite.specs.Held.{state}
 use Rattle.sqlite.specs.Order.{Row}
 use Rattle.sqlite.specs.State.{HasCleanDisk, Shown}
-use Rattle.desk_sql.specs.Finding.{Holds}
-use Rattle.desk_sql.specs.Rows.{tables_at}
+use Rattle.desk_sql.specs.Effects.{Holds}
+use Rattle.desk_sql.specs.Rows.{tables_at, ListVolumes, volume_table_in}
 use Rattle.desk_sql.specs.Schema.{HasTable, has_table, is_packed}
-use Rattle.desk_sql.specs.Volumes.{ListVolumes, volume_table_in}
 use Rattle.desk_sql.proofs.AskLemmas.{all_selected}
 use Rattle.desk_sql.proofs.HandLemmas.{cut_short_of}
 use Rattle.desk_sql.proofs.lemmas.Read.{was_open}

@@ -1,8 +1,7 @@
 use Rattle.std.proofs.Common.{Bool, [], ◌∷◌, List, ℕ, map}
-use Rattle.desk_sql.specs.Rows.{columns}
+use Rattle.desk_sql.specs.Rows.{columns, volume_table_in}
 use Rattle.desk_sql.specs.Schema.{tree_of}
 use Rattle.desk_sql.specs.Statements.{SelectsAll}
-use Rattle.desk_sql.specs.Volumes.{volume_table_in}
 use Rattle.desk_sql.proofs.AskLemmas.{two_trees}
 use Rattle.desk_sql.proofs.PackedLemmas as packed
 use Rattle.desk_sql.proofs.StatementLemmas.{volume_rows_selected}

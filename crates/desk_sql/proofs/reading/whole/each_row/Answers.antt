@@ -2,7 +2,7 @@ use Rattle.std.proofs.Common.{◌≡◌, List, [], arith, sym, subst, ◌∙◌,
 use Rattle.sqlite.specs.Held.{state}
 use Rattle.sqlite.specs.Order.{Row}
 use Rattle.sqlite.specs.State.{HasCleanDisk, Shown}
-use Rattle.desk_sql.specs.Finding.{Holds}
+use Rattle.desk_sql.specs.Effects.{Holds}
 use Rattle.desk_sql.specs.Queries.{table_read, table_in, key_cells, rows_read}
 use Rattle.desk_sql.specs.Rows.{Lists, tables_at}
 use Rattle.desk_sql.specs.Schema.{HasTable, has_table, is_packed}

@@ -1,8 +1,7 @@
 use Rattle.std.proofs.Common.{◌∙◌, ap, sym, refl}
-use Rattle.desk_store.specs.Changes.{clear_rows}
+use Rattle.desk_store.specs.Changes.{clear_rows, changed_by}
 use Rattle.desk_store.specs.declared.change.Change.TheVariants.{Clear}
-use Rattle.desk_store.specs.StoreChange.{changed_by}
-use Rattle.desk_store.specs.Listing.{world_in_lists, with_count, without}
+use Rattle.desk_store.specs.World.{world_in_lists, with_count, without}
 use Rattle.desk_store.proofs.ChangeLemmas.{cleared, changed}
 use Rattle.desk_store.proofs.CountLemmas.{listed_same}
 use Rattle.desk_store.proofs.KeptLemmas.{clear_kept, clear_within}

@@ -1,9 +1,8 @@
 use Rattle.std.proofs.Common.{sym, ap, refl, ◌∙◌}
 use Rattle.std.specs.BTreeMap.{is_at}
 use Rattle.std.specs.Map.{set_value}
-use Rattle.desk_store.specs.Changes.{close_row}
-use Rattle.desk_store.specs.StoreChange.{changed_by}
-use Rattle.desk_store.specs.Listing.{world_in_lists}
+use Rattle.desk_store.specs.Changes.{close_row, changed_by}
+use Rattle.desk_store.specs.World.{world_in_lists}
 use Rattle.desk_store.proofs.EntryLemmas.{key_cmp}
 use Rattle.desk_store.proofs.ChangeLemmas.{found_closed, none_closed, changed}
 use Rattle.desk_store.proofs.KeptLemmas.{close_kept}

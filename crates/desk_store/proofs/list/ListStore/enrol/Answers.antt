@@ -1,7 +1,7 @@
 use Rattle.std.proofs.Common.{◌∙◌}
-use Rattle.desk_store.specs.StoreChange.{changed_by}
+use Rattle.desk_store.specs.Changes.{changed_by}
 use Rattle.desk_store.specs.declared.change.Change.TheVariants.{Enrol}
-use Rattle.desk_store.specs.Listing.{world_in_lists, filed_all}
+use Rattle.desk_store.specs.World.{world_in_lists, filed_all}
 use Rattle.desk_store.proofs.lemmas.Content.{enrol_content}
 use Rattle.desk_store.proofs.StoreLemmas.{enrolled}
 use Rattle.desk_store.proofs.CountLemmas.{count_is, count_enrolled}

@@ -1,6 +1,6 @@
 use Rattle.std.proofs.Common.{◌≤◌, ◌∙◌, ap, arith}
 use Rattle.desk_rules.specs.Limits.{max_plans}
-use Rattle.desk_store.specs.Listing.{world_in_lists}
+use Rattle.desk_store.specs.World.{world_in_lists}
 use Rattle.desk_store.proofs.EntryLemmas.{key_cmp}
 use Rattle.std.specs.BTreeMap.{insert_entry}
 use Rattle.desk_store.proofs.KeptLemmas.{put_first, put_again, count_within}

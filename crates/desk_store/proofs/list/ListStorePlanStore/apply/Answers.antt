@@ -1,5 +1,5 @@
 use Rattle.std.proofs.Common.{◌∙◌, ap, refl}
-use Rattle.desk_store.specs.StoreChange.{changed_by}
+use Rattle.desk_store.specs.Changes.{changed_by}
 use Rattle.desk_store.specs.declared.change.Change.TheVariants.{Put}
 use Rattle.desk_store.proofs.list.ListStorePlanStore.apply.Goals as goal
 

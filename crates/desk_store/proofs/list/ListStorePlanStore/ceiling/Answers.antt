@@ -1,6 +1,5 @@
 use Rattle.std.proofs.Common.{◌∙◌, ap, subst}
-use Rattle.desk_store.specs.World.{ceiling_of}
-use Rattle.desk_store.specs.Content.{IsContent}
+use Rattle.desk_store.specs.World.{ceiling_of, IsContent}
 use Rattle.desk_store.proofs.StoreLemmas.{ceiling_found}
 use Rattle.desk_store.proofs.list.ListStorePlanStore.ceiling.Goals as goal
 

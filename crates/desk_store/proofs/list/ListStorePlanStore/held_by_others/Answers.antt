@@ -1,6 +1,5 @@
 use Rattle.std.proofs.Common.{◌∙◌, ap}
-use Rattle.desk_store.specs.World.{held}
-use Rattle.desk_store.specs.Listing.{world_in_lists}
+use Rattle.desk_store.specs.World.{held, world_in_lists}
 use Rattle.desk_store.proofs.lemmas.Rival.{held_by_others}
 use Rattle.desk_store.proofs.list.ListStorePlanStore.held_by_others.Goals as goal
 

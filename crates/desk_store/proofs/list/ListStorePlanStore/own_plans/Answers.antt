@@ -1,6 +1,5 @@
 use Rattle.std.proofs.Common.{◌∙◌, ap, subst}
-use Rattle.desk_store.specs.World.{plans_of}
-use Rattle.desk_store.specs.Content.{IsContent}
+use Rattle.desk_store.specs.World.{plans_of, IsContent}
 use Rattle.desk_store.proofs.list.ListStorePlanStore.own_plans.Goals as goal
 
 pub returns-clause-value : goal.returns-clause-value

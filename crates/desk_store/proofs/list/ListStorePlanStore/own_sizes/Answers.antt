@@ -1,5 +1,5 @@
 use Rattle.std.proofs.Common.{arith}
-use Rattle.desk_store.specs.Listing.{world_in_lists}
+use Rattle.desk_store.specs.World.{world_in_lists}
 use Rattle.desk_store.proofs.list.ListStorePlanStore.own_sizes.Goals as goal
 
 pub sizes_of-requires-clause-spans : goal.sizes_of-requires-clause-spans

@@ -1,7 +1,6 @@
 use Rattle.std.proofs.Common.{◌∙◌, ap}
 use Rattle.desk_rules.specs.Conflict.{at_least}
-use Rattle.desk_store.specs.World.{plans_of, held, held_at}
-use Rattle.desk_store.specs.Listing.{world_in_lists}
+use Rattle.desk_store.specs.World.{plans_of, held, held_at, world_in_lists}
 use Rattle.desk_store.proofs.lemmas.Rival.{held_by_rivals}
 use Rattle.desk_store.proofs.list.ListStorePlanStore.rivals_near.Goals as goal
 

@@ -1,5 +1,5 @@
 use Rattle.std.proofs.Common.{◌∙◌, ap}
-use Rattle.desk_rules.specs.States.{states_of}
+use Rattle.desk_rules.specs.Outcome.{states_of}
 use Rattle.desk_store.specs.World.{stored_of, plans_of}
 use Rattle.desk_store.proofs.list.ListStorePlanStore.states.Goals as goal
 

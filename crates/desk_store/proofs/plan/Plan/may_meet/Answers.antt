@@ -1,5 +1,5 @@
 use Rattle.std.proofs.Common.{subst, sym, ◌∙◌}
-use Rattle.desk_store.specs.Parts.{SharesNoPoint}
+use Rattle.desk_store.specs.World.{SharesNoPoint}
 use Rattle.desk_store.proofs.PlanLemmas.{no_point}
 use Rattle.desk_store.proofs.plan.Plan.may_meet.Goals as goal
 

@@ -1,8 +1,7 @@
 use Rattle.std.proofs.Common.{refl, rules, sym, subst}
 use Rattle.sqlite.specs.State.{HasCleanDisk}
 use Rattle.sqlite.specs.Held.{state}
-use Rattle.desk_sql.specs.Effects.{Makes, IsUnderWay}
-use Rattle.desk_sql.specs.Frames.{Remembers}
+use Rattle.desk_sql.specs.Effects.{Makes, IsUnderWay, Remembers}
 use Rattle.desk_store.specs.World.{World}
 use Rattle.desk_tables.specs.Copying.{AddsWorldRows}
 use Rattle.desk_tables.proofs.FillLemmas.{can_then}

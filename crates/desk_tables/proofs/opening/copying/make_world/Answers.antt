@@ -1,10 +1,8 @@
 use Rattle.std.proofs.Common.{◌≡◌, ◌<◌, ◌^◌, ◌∙◌, ap, arith, length, rules, sym, subst}
-use Rattle.desk_sql.specs.Effects.{Commits}
+use Rattle.desk_sql.specs.Effects.{Commits, Holds}
 use Rattle.desk_store.specs.World.{World}
 use Rattle.desk_tables.specs.Copying.{AddsWorldRows, BlamesNew}
-use Rattle.table_load.specs.Standing.{Stands}
-use Rattle.table_load.specs.Writable.{CanBeFilled}
-use Rattle.desk_sql.specs.Finding.{Holds}
+use Rattle.table_load.specs.Opening.{Stands, CanBeFilled}
 use Rattle.desk_tables.proofs.CopyLemmas.{written_stands}
 use Rattle.desk_tables.proofs.FillLemmas.{blames_later, can_fill}
 use Rattle.table_load.proofs.lemmas.Opening.{reported_as}

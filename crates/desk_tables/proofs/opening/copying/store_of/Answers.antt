@@ -1,5 +1,5 @@
 use Rattle.std.proofs.Common.{rules, sym, subst}
-use Rattle.table_load.specs.Leaving.{IsSettledAt}
+use Rattle.table_load.specs.Files.{IsSettledAt}
 use Rattle.desk_tables.proofs.opening.copying.store_of.Goals as goal
 
 pub returns-in-Ok-clause-adopted : goal.returns-in-Ok-clause-adopted

@@ -4,9 +4,8 @@ use Rattle.sqlite.specs.State.{HasCleanDisk}
 use Rattle.sqlite.specs.Held.{state}
 use Rattle.desk_sql.specs.Rows.{AddsPlan}
 use Rattle.desk_tables.specs.Copying.{AddsHeadRows}
-use Rattle.table_load.specs.Opening.{BlamesReading}
+use Rattle.table_load.specs.Opening.{BlamesReading, AreNewHeads}
 use Rattle.row_codec.specs.Tables.{row_of_plan}
-use Rattle.table_load.specs.Writable.{AreNewHeads}
 use Rattle.desk_tables.proofs.CopyLemmas.{no_heads, more_heads}
 use Rattle.table_load.proofs.lemmas.Moving.{begins, goes_on, way_on}
 use Rattle.table_load.proofs.lemmas.Opening.{blames_since, reported_as}

@@ -3,7 +3,7 @@ use Rattle.sqlite.specs.State.{HasCleanDisk}
 use Rattle.sqlite.specs.Held.{state}
 use Rattle.table_load.proofs.lemmas.Moving.{HasAdded}
 use Rattle.desk_tables.specs.Copying.{AddsHeadRows}
-use Rattle.table_load.specs.Writable.{AreNewHeads}
+use Rattle.table_load.specs.Opening.{AreNewHeads}
 use Rattle.desk_tables.proofs.opening.copying.write_heads.Given as goal
 
 -- the rows of the plans so far were added, and those of the others can be, if all could

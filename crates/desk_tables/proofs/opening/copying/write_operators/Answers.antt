@@ -4,9 +4,8 @@ use Rattle.sqlite.specs.State.{HasCleanDisk}
 use Rattle.sqlite.specs.Held.{state}
 use Rattle.desk_sql.specs.Rows.{AddsOperator}
 use Rattle.desk_tables.specs.Copying.{AddsOperatorRows}
-use Rattle.table_load.specs.Opening.{BlamesReading}
+use Rattle.table_load.specs.Opening.{BlamesReading, AreNewOperators}
 use Rattle.row_codec.specs.Tables.{row_of_operator}
-use Rattle.table_load.specs.Writable.{AreNewOperators}
 use Rattle.desk_tables.proofs.CopyLemmas.{no_operators, more_operators}
 use Rattle.table_load.proofs.lemmas.Moving.{begins, goes_on, way_on}
 use Rattle.table_load.proofs.lemmas.Opening.{blames_since, reported_as}

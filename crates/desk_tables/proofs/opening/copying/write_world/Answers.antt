@@ -2,7 +2,7 @@ use Rattle.std.proofs.Common.{arith, rules}
 use Rattle.sqlite.specs.State.{HasCleanDisk}
 use Rattle.sqlite.specs.Held.{state}
 use Rattle.desk_store.specs.World.{World}
-use Rattle.table_load.specs.Writable.{AreNewHeads, AreNewOperators, AreWritable}
+use Rattle.table_load.specs.Opening.{AreNewHeads, AreNewOperators, AreWritable}
 use Rattle.desk_tables.proofs.FillLemmas.{heads_new, operators_new, plans_new}
 use Rattle.desk_tables.proofs.opening.copying.write_world.Goals as goal
 

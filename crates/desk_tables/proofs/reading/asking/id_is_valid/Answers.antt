@@ -1,5 +1,5 @@
 use Rattle.std.proofs.Common.{IfSome, subst, sym}
-use Rattle.desk_store.specs.Content.{IsId}
+use Rattle.desk_store.specs.World.{IsId}
 use Rattle.desk_store.proofs.lemmas.Parse.{parsed_id}
 use Rattle.desk_tables.proofs.reading.asking.id_is_valid.Goals as goal
 

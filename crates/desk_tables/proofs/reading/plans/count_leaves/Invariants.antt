@@ -1,5 +1,5 @@
 use Rattle.std.proofs.Common.{◌≡◌, min, take, ◌-◌, ◌^◌}
-use Rattle.row_codec.specs.RivalRows.{query_leaf_count}
+use Rattle.row_codec.specs.RowsRead.{query_leaf_count}
 use Rattle.desk_tables.proofs.reading.plans.count_leaves.Given as goal
 
 abbrev pub invariant-loop-query : goal.invariant-loop-query

@@ -1,7 +1,6 @@
 use Rattle.std.proofs.Common.{sym, subst}
 use Rattle.table_load.specs.Opening.{BeginsWith}
-use Rattle.table_load.specs.OpeningSteps.{IsAdopted}
-use Rattle.table_load.specs.CutShort.{IsCompletedAs, LeavesShownOr}
+use Rattle.table_load.specs.OpeningSteps.{IsAdopted, IsCompletedAs, LeavesShownOr}
 use Rattle.table_load.proofs.lemmas.Cut.{shown_leaves}
 use Rattle.desk_tables.proofs.LiftLemmas.{doubt_lifted, none_then, shield_lifted, begins_lifted, blames_lifted, kept_lifted, none_lifted, older_lifted}
 use Rattle.desk_tables.proofs.store.SqliteStore.adopt.Goals as goal

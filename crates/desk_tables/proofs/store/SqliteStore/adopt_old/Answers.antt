@@ -1,7 +1,6 @@
 use Rattle.std.proofs.Common.{sym, subst}
 use Rattle.table_load.specs.Moving.{BeginsMoved}
-use Rattle.table_load.specs.OpeningSteps.{IsAdopted}
-use Rattle.table_load.specs.CutShort.{IsMovedOn, LeavesShownOr}
+use Rattle.table_load.specs.OpeningSteps.{IsAdopted, IsMovedOn, LeavesShownOr}
 use Rattle.table_load.proofs.lemmas.Cut.{shown_leaves}
 use Rattle.desk_tables.proofs.LiftLemmas.{doubt_lifted, none_then, shield_lifted, blames_lifted, keeps_lifted, moves_lifted, unmoved_lifted}
 use Rattle.desk_tables.proofs.store.SqliteStore.adopt_old.Goals as goal

@@ -1,9 +1,8 @@
 use Rattle.std.proofs.Common.{arith, sym, subst}
-use Rattle.desk_store.specs.StoreChange.{changed_by}
-use Rattle.desk_store.specs.Content.{IsContent}
-use Rattle.desk_store.specs.Crashes.{LeavesOldOr}
-use Rattle.row_codec.specs.Known.{Knows}
-use Rattle.table_load.specs.Leaving.{MayLeave}
+use Rattle.desk_store.specs.Changes.{changed_by}
+use Rattle.desk_store.specs.World.{IsContent, LeavesOldOr}
+use Rattle.row_codec.specs.SpanBounds.{Knows}
+use Rattle.table_load.specs.Files.{MayLeave}
 use Rattle.desk_tables.proofs.LeavingLemmas.{leaves_or_changed}
 use Rattle.desk_tables.proofs.store.SqliteStorePlanStore.apply.Goals as goal
 

@@ -1,7 +1,7 @@
 use Rattle.std.proofs.Common.{subst, sym}
 use Rattle.sqlite.specs.Held.{state}
 use Rattle.sqlite.specs.State.{HasCleanDisk}
-use Rattle.desk_store.specs.Content.{IsContent}
+use Rattle.desk_store.specs.World.{IsContent}
 use Rattle.desk_tables.proofs.store.SqliteStorePlanStore.ceiling.Goals as goal
 
 pub returns-clause-content : goal.returns-clause-content

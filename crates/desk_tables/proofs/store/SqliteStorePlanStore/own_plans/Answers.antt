@@ -1,7 +1,7 @@
 use Rattle.std.proofs.Common.{arith, subst}
 use Rattle.sqlite.specs.Held.{state}
 use Rattle.sqlite.specs.State.{HasCleanDisk}
-use Rattle.desk_store.specs.Content.{IsContent}
+use Rattle.desk_store.specs.World.{IsContent}
 use Rattle.table_load.proofs.lemmas.Store.{on_any}
 use Rattle.desk_tables.proofs.store.SqliteStorePlanStore.own_plans.Goals as goal
 

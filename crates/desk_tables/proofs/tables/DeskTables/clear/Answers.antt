@@ -1,12 +1,11 @@
 use Rattle.std.proofs.Common.{ap, subst, sym, ◌∙◌, map}
 use Rattle.std.specs.List.{AllByRecursion}
 use Rattle.std.specs.String.{string_bytes}
-use Rattle.desk_changes.specs.Batches.{RemovesPlans}
+use Rattle.desk_changes.specs.RowChanges.{RemovesPlans}
 use Rattle.desk_store.specs.declared.change.Change.TheVariants.{Clear}
-use Rattle.desk_tables.specs.ChangesMade.{IsNext}
+use Rattle.desk_tables.specs.Store.{IsNext, ChangesRows, IsWithinLimits}
 use Rattle.row_codec.specs.Tables.{id_text}
-use Rattle.desk_store.specs.Content.{IsId}
-use Rattle.desk_tables.specs.TableChanges.{ChangesRows, IsWithinLimits}
+use Rattle.desk_store.specs.World.{IsId}
 use Rattle.desk_tables.proofs.AfterLemmas.{committed_as, followed, followed_blamed, made_cleared}
 use Rattle.desk_tables.proofs.tables.DeskTables.clear.Goals as goal
 

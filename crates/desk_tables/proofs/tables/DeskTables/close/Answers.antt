@@ -5,10 +5,8 @@ use Rattle.desk_store.proofs.lemmas.Parse.{parsed_id}
 use Rattle.sqlite.specs.Held.{state}
 use Rattle.sqlite.specs.State.{HasCleanDisk}
 use Rattle.desk_sql.specs.Changing.{AreLow, IsShort}
-use Rattle.desk_sql.specs.Frames.{OnlyReads}
-use Rattle.desk_tables.specs.Causes.{BlamesStore}
-use Rattle.desk_tables.specs.Store.{HeldWorld}
-use Rattle.desk_tables.specs.Lookups.{own_of}
+use Rattle.desk_sql.specs.Effects.{OnlyReads}
+use Rattle.desk_tables.specs.Store.{BlamesStore, HeldWorld, own_of}
 use Rattle.row_codec.specs.Tables.{plan_rows}
 use Rattle.desk_tables.proofs.ListingLemmas.{none_first, none_stored, some_first}
 use Rattle.desk_tables.proofs.ParseLemmas.{parsed_short}

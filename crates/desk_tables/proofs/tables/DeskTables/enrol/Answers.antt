@@ -2,7 +2,7 @@ use Rattle.std.proofs.Common.{subst, sym}
 use Rattle.desk_store.specs.declared.change.Change.TheVariants.{Enrol}
 use Rattle.desk_sql.specs.Changing.{IsShort}
 use Rattle.desk_sql.specs.Rows.{PutsOperator}
-use Rattle.desk_tables.specs.ChangesMade.{IsNext}
+use Rattle.desk_tables.specs.Store.{IsNext}
 use Rattle.desk_tables.proofs.AfterLemmas.{committed_as, followed, followed_blamed, made_enrolled}
 use Rattle.table_load.proofs.lemmas.NewRow.{name_short}
 use Rattle.desk_tables.proofs.tables.DeskTables.enrol.Goals as goal

@@ -1,10 +1,9 @@
 use Rattle.std.proofs.Common.{refl, subst, sym, arith, filter, map, IsPermutation}
 use Rattle.sqlite.specs.Held.{state}
-use Rattle.desk_sql.specs.Rows.{tables_of, columns_from_first}
-use Rattle.desk_sql.specs.Others.{is_plan_span}
+use Rattle.desk_sql.specs.Rows.{tables_of, columns_from_first, is_plan_span}
 use Rattle.desk_store.proofs.lemmas.Parse.{parsed_id}
-use Rattle.desk_tables.specs.Causes.{BlamesSpans}
-use Rattle.row_codec.specs.RivalRows.{HasTakenHelds, span_filter_of}
+use Rattle.desk_tables.specs.Store.{BlamesSpans}
+use Rattle.row_codec.specs.RowsRead.{HasTakenHelds, span_filter_of}
 use Rattle.row_codec.proofs.lemmas.Result.{weaker}
 use Rattle.table_load.proofs.lemmas.Store.{still_stands, on_whole}
 use Rattle.desk_tables.proofs.CauseLemmas.{err_weaker, spans_blamed}

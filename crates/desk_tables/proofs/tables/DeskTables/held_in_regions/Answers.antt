@@ -1,7 +1,7 @@
 use Rattle.std.proofs.Common.{subst, sym}
 use Rattle.sqlite.specs.State.{HasCleanDisk}
 use Rattle.sqlite.specs.Held.{state}
-use Rattle.row_codec.specs.RivalRows.{AreWanted}
+use Rattle.row_codec.specs.RowsRead.{AreWanted}
 use Rattle.row_codec.specs.SpanBounds.{Bounds}
 use Rattle.desk_tables.proofs.OtherLemmas.{reading_begins, reading_on}
 use Rattle.desk_tables.proofs.tables.DeskTables.held_in_regions.Goals as goal

@@ -1,5 +1,5 @@
 use Rattle.std.proofs.Common.{sym, subst}
-use Rattle.desk_tables.specs.ChangesMade.{IsNext}
+use Rattle.desk_tables.specs.Store.{IsNext}
 use Rattle.row_codec.specs.SpanBounds.{BringsKnown}
 use Rattle.row_codec.proofs.lemmas.Result.{weaker}
 use Rattle.desk_tables.proofs.tables.DeskTables.make.Goals as goal

@@ -5,13 +5,13 @@ use Rattle.desk_sql.specs.Rows as sql
 use Rattle.desk_sql.specs.Rows.{tables_of, with_volumes, Lists}
 use Rattle.desk_rules.specs.Limits.{max_plans}
 use Rattle.desk_store.specs.World.{is_by}
-use Rattle.row_codec.specs.Gathering.{HasCollected}
+use Rattle.row_codec.specs.RowsRead.{HasCollected}
 use Rattle.row_codec.proofs.lemmas.Result.{weaker}
 use Rattle.table_load.proofs.lemmas.Store.{on_whole}
 use Rattle.desk_tables.proofs.JoinedLemmas.{own_listing, own_plans_are}
 use Rattle.std.proofs.lemmas.List.{length-map}
 use Rattle.desk_store.proofs.lemmas.Order.{all_filter}
-use Rattle.desk_tables.specs.Causes.{BlamesStore}
+use Rattle.desk_tables.specs.Store.{BlamesStore}
 use Rattle.desk_tables.proofs.CauseLemmas.{err_weaker, listing_blamed, within_bits}
 use Rattle.desk_tables.proofs.tables.DeskTables.own_plans.Goals as goal
 

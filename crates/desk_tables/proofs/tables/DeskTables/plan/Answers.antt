@@ -1,7 +1,6 @@
 use Rattle.std.proofs.Common.{◌≡◌, ◌∙◌, sym, subst, arith}
 use Rattle.desk_tables.proofs.ListingLemmas.{none_stored, plan_stored, none_first, some_first}
-use Rattle.desk_tables.specs.Causes.{BlamesStore}
-use Rattle.desk_tables.specs.Lookups.{own_of}
+use Rattle.desk_tables.specs.Store.{BlamesStore, own_of}
 use Rattle.row_codec.specs.Tables.{volume_rows}
 use Rattle.desk_tables.proofs.CauseLemmas.{plan_reads}
 use Rattle.table_load.proofs.lemmas.Frame.{reads_then}

@@ -2,13 +2,12 @@ use Rattle.std.proofs.Common.{ap, arith, sym, subst, ◌∙◌, map}
 use Rattle.std.specs.List.{AllByRecursion}
 use Rattle.sqlite.specs.State.{HasCleanDisk}
 use Rattle.sqlite.specs.Held.{state}
-use Rattle.desk_changes.specs.Putting.{IsPuttable}
-use Rattle.desk_changes.specs.Batches.{PutsPlan, volume_row_in, cover_of, span_row_in}
+use Rattle.desk_changes.specs.RowChanges.{IsPuttable, PutsPlan, volume_row_in, cover_of, span_row_in}
 use Rattle.desk_store.specs.Changes.{filed_by}
 use Rattle.desk_store.specs.declared.change.Change.TheVariants.{Put}
-use Rattle.desk_tables.specs.ChangesMade.{IsNext}
+use Rattle.desk_tables.specs.Store.{IsNext}
 use Rattle.row_codec.specs.Tables.{usage_number, aircraft_number, area_rows, area_covers, ArePlanSpanRows}
-use Rattle.desk_store.specs.Content.{IsValidVolume}
+use Rattle.desk_store.specs.World.{IsValidVolume}
 use Rattle.row_codec.specs.SpanBounds.{IsKnownRow}
 use Rattle.desk_store.proofs.lemmas.Parse.{parsed_id}
 use Rattle.desk_tables.proofs.ParseLemmas.{parsed_short}

@@ -1,5 +1,5 @@
 use Rattle.std.proofs.Common.{◌+◌, take, subst, sym}
-use Rattle.row_codec.specs.RivalRows.{is_asked}
+use Rattle.row_codec.specs.RowsRead.{is_asked}
 use Rattle.desk_tables.proofs.AskingLemmas.{IsAsking, asking_begins, asking_on}
 use Rattle.desk_tables.proofs.tables.DeskTables.query_all.Goals as goal
 

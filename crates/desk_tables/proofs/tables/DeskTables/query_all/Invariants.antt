@@ -1,5 +1,5 @@
 use Rattle.std.proofs.Common.{take}
-use Rattle.row_codec.specs.RivalRows.{is_asked}
+use Rattle.row_codec.specs.RowsRead.{is_asked}
 use Rattle.desk_tables.proofs.AskingLemmas.{IsAsking}
 use Rattle.desk_tables.proofs.tables.DeskTables.query_all.Given as goal
 

@@ -3,10 +3,9 @@ use mir.Val.{to_z, of_z}
 use Rattle.std.proofs.lemmas.Int.{to_z_pos}
 use Rattle.std.proofs.Common.{IfOk, pos, refl, subst, sym, arith, filter, map, IsPermutation}
 use Rattle.sqlite.specs.Held.{state}
-use Rattle.desk_sql.specs.Rows.{tables_of, columns_from_first, is_rival_from}
-use Rattle.desk_sql.specs.Others.{is_others_from}
-use Rattle.desk_tables.specs.Causes.{BlamesSpans}
-use Rattle.row_codec.specs.RivalRows.{HasTakenHelds, HaveTaken, is_another_from, span_filter_from}
+use Rattle.desk_sql.specs.Rows.{tables_of, columns_from_first, is_rival_from, is_others_from}
+use Rattle.desk_tables.specs.Store.{BlamesSpans}
+use Rattle.row_codec.specs.RowsRead.{HasTakenHelds, HaveTaken, is_another_from, span_filter_from}
 use Rattle.row_codec.proofs.lemmas.Result.{weaker}
 use Rattle.table_load.proofs.lemmas.Store.{still_stands, on_whole}
 use Rattle.desk_tables.proofs.CauseLemmas.{err_weaker, spans_blamed}

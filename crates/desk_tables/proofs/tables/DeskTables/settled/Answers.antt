@@ -1,5 +1,5 @@
 use Rattle.std.proofs.Common.{subst}
-use Rattle.table_load.specs.Leaving.{IsSettledAt}
+use Rattle.table_load.specs.Files.{IsSettledAt}
 use Rattle.desk_tables.proofs.LeavingLemmas.{leaves_what_stands}
 use Rattle.desk_tables.proofs.tables.DeskTables.settled.Goals as goal
 

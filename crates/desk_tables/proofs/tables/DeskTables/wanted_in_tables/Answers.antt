@@ -2,7 +2,7 @@ use Rattle.std.proofs.Common.{◌<◌, List, length, sym, subst, arith}
 use Rattle.sqlite.specs.Held.{state}
 use Rattle.s2_cover.specs.declared.spans.Span.{Span}
 use Rattle.desk_sql.specs.Rows.{tables_of}
-use Rattle.row_codec.specs.RivalRows.{HaveTakenAll, is_asked}
+use Rattle.row_codec.specs.RowsRead.{HaveTakenAll, is_asked}
 use Rattle.desk_tables.proofs.AskingLemmas.{both_ok}
 use Rattle.desk_tables.proofs.HeldLemmas.{are_wanted}
 use Rattle.desk_tables.proofs.tables.DeskTables.wanted_in_tables.Goals as goal

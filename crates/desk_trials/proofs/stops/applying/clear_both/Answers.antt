@@ -1,6 +1,5 @@
 use Rattle.std.proofs.Common.{sym, subst}
-use Rattle.desk_store.specs.Changes.{AreDistinct, AreStored}
-use Rattle.desk_store.specs.StoreChange.{IsFitting}
+use Rattle.desk_store.specs.Changes.{AreDistinct, AreStored, IsFitting}
 use Rattle.desk_store.specs.World.{plans_of}
 use Rattle.desk_trials.proofs.stops.applying.clear_both.Goals as goal
 

@@ -1,5 +1,5 @@
 use Rattle.std.proofs.Common.{sym, subst}
-use Rattle.desk_store.specs.StoreChange.{IsFitting}
+use Rattle.desk_store.specs.Changes.{IsFitting}
 use Rattle.desk_trials.proofs.stops.applying.fits.Goals as goal
 
 pub returns-in-Enrol-clause-value : goal.returns-in-Enrol-clause-value

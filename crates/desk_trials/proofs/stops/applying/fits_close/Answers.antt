@@ -1,7 +1,7 @@
 use Rattle.std.proofs.Common.{◌∙◌, sym, subst, rules}
 use Rattle.std.specs.Prelude.{IsSome}
 use Rattle.desk_store.proofs.lemmas.Fault.{was_honest}
-use Rattle.desk_store.specs.StoreChange.{IsFitting}
+use Rattle.desk_store.specs.Changes.{IsFitting}
 use Rattle.desk_store.specs.World.{ceiling_of, plans_of, stored_of}
 use Rattle.desk_trials.proofs.stops.applying.fits_close.Goals as goal
 

@@ -4,7 +4,7 @@ use Rattle.std.specs.List.{IsDistinct}
 use Rattle.std.specs.Ordering.{is_eq}
 use Rattle.std.specs.Prelude.{IsSome}
 use Rattle.desk_store.proofs.lemmas.Fault.{was_honest}
-use Rattle.desk_store.specs.StoreChange.{IsFitting}
+use Rattle.desk_store.specs.Changes.{IsFitting}
 use Rattle.desk_store.specs.World.{plans_of, stored_of, text_cmp}
 use Rattle.desk_trials.proofs.stops.applying.has_both.Goals as goal
 

@@ -1,7 +1,7 @@
 use Rattle.std.proofs.Common.{subst, sym, ◌∙◌}
 use Rattle.std.proofs.lemmas.Result.{on_ok_weaker}
-use Rattle.slab_regions.specs.SearchArea.{sought_has}
-use Rattle.live_index.specs.Near.{AddsPlans}
+use Rattle.slab_regions.specs.Regions.{sought_has}
+use Rattle.live_index.specs.Live.{AddsPlans}
 use Rattle.live_index.proofs.NearLemmas.{adds_none_far, adds_looked}
 use Rattle.live_index.proofs.chunk.Chunk.add_near.Goals as goal
 

@@ -2,7 +2,7 @@ use Rattle.std.proofs.Common.{◌&&◌, ◌∙◌, ap, rules, sym, tests}
 use Rattle.std.proofs.lemmas.Iterator.{YieldsList-from_slice}
 use Rattle.std.proofs.lemmas.Iterator.Search.{any_from_yields_List}
 use Rattle.std.specs.List.{list_any}
-use Rattle.live_index.specs.Regions.{is_theirs}
+use Rattle.live_index.specs.Live.{is_theirs}
 use Rattle.live_index.proofs.chunk.Chunk.has_theirs.Goals as goal
 
 pub returns : goal.returns

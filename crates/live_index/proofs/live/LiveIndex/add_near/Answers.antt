@@ -1,8 +1,7 @@
 use Rattle.std.proofs.Common.{subst}
 use Rattle.std.proofs.lemmas.Result.{on_ok_weaker}
-use Rattle.slab_regions.specs.SearchArea.{sought_has}
-use Rattle.live_index.specs.Live.{AreBoundedGroups, volumes_under}
-use Rattle.live_index.specs.Near.{AddsPlans}
+use Rattle.slab_regions.specs.Regions.{sought_has}
+use Rattle.live_index.specs.Live.{AreBoundedGroups, volumes_under, AddsPlans}
 use Rattle.live_index.proofs.NearLemmas.{adds_both}
 use Rattle.live_index.proofs.live.LiveIndex.add_near.Goals as goal
 

@@ -2,7 +2,7 @@ use Rattle.std.proofs.Common.{◌≡◌, ◌||◌, ◌∙◌, false, ap, rules, 
 use Rattle.std.proofs.lemmas.Iterator.{YieldsList-from_slice}
 use Rattle.std.proofs.lemmas.Iterator.Search.{any_from_yields_List}
 use Rattle.std.specs.List.{list_any}
-use Rattle.live_index.specs.Regions.{group_has_theirs, is_theirs}
+use Rattle.live_index.specs.Live.{group_has_theirs, is_theirs}
 use Rattle.live_index.proofs.live.LiveIndex.has_theirs.Goals as goal
 
 pub returns-else-any : goal.returns-else-any

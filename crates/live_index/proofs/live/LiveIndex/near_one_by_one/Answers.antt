@@ -1,9 +1,8 @@
 use Rattle.std.proofs.Common.{◌≡◌, take, subst, arith}
 use Rattle.std.proofs.lemmas.List.{take_all}
 use Rattle.volume4d.specs.Slab.{slab_has, slabs_have}
-use Rattle.live_index.specs.Live.{volumes_of}
-use Rattle.live_index.specs.Near.{AreNearPlans}
-use Rattle.slab_regions.specs.SearchArea.{sought_has}
+use Rattle.live_index.specs.Live.{volumes_of, AreNearPlans}
+use Rattle.slab_regions.specs.Regions.{sought_has}
 use Rattle.live_index.proofs.NearLemmas.{adds_extent, adds_nothing, adds_within, found_weaker, near_plans}
 use Rattle.live_index.proofs.live.LiveIndex.near_one_by_one.Goals as goal
 

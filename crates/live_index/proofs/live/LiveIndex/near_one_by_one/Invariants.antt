@@ -1,8 +1,7 @@
 use Rattle.std.proofs.Common.{◌≡◌, [], take}
 use Rattle.volume4d.specs.Slab.{slabs_have}
 use Rattle.live_index.specs.declared.near.NearPlans.{NearPlans}
-use Rattle.live_index.specs.Live.{AreBoundedGroups, volumes_of}
-use Rattle.live_index.specs.Near.{AddsPlans}
+use Rattle.live_index.specs.Live.{AreBoundedGroups, volumes_of, AddsPlans}
 use Rattle.live_index.proofs.live.LiveIndex.near_one_by_one.Given as goal
 
 abbrev pub invariant-loop-extent : goal.invariant-loop-extent

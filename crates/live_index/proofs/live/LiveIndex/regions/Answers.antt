@@ -1,7 +1,7 @@
 use Rattle.std.proofs.Common.{rules}
 use Rattle.std.proofs.lemmas.Fn.{filter_same}
 use Rattle.std.proofs.lemmas.Result.{IfOk-weaker}
-use Rattle.live_index.specs.Regions.{has_theirs}
+use Rattle.live_index.specs.Live.{has_theirs}
 use Rattle.live_index.proofs.RegionLemmas.{nothing_beside}
 use Rattle.live_index.proofs.live.LiveIndex.regions.Goals as goal
 

@@ -1,5 +1,5 @@
 use Rattle.std.proofs.Common.{sym, subst}
-use Rattle.desk_store.specs.StoreChange.{changed_by}
+use Rattle.desk_store.specs.Changes.{changed_by}
 use Rattle.live_index.specs.Live.{AreLive, stays_at, volumes_of, volumes_under}
 use Rattle.live_index.proofs.lemmas.Live.{changed_live}
 use Rattle.live_index.proofs.LiveLemmas.{followed}

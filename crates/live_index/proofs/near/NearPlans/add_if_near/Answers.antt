@@ -1,6 +1,6 @@
 use Rattle.std.proofs.Common.{sym, ◌∙◌}
 use Rattle.std.proofs.lemmas.Result.{on_ok_weaker}
-use Rattle.slab_regions.specs.SearchArea.{sought_has}
+use Rattle.slab_regions.specs.Regions.{sought_has}
 use Rattle.live_index.proofs.NearLemmas.{adds_far, adds_listed, adds_taken}
 use Rattle.live_index.proofs.near.NearPlans.add_if_near.Goals as goal
 

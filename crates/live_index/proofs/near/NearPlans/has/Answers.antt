@@ -1,7 +1,7 @@
 use Rattle.std.proofs.Common.{◌∙◌, ap}
 use Rattle.std.specs.List.{list_any}
 use Rattle.std.specs.Ordering.{is_eq}
-use Rattle.live_index.specs.Places.{key_cmp}
+use Rattle.live_index.specs.Live.{key_cmp}
 use Rattle.live_index.proofs.NearLemmas.{listed_among}
 use Rattle.live_index.proofs.near.NearPlans.has.Goals as goal
 

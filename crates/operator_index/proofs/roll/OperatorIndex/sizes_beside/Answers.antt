@@ -1,5 +1,5 @@
 use Rattle.std.proofs.Common.{◌<◌, ◌^◌, ◌∙◌, ap, refl, subst, sym}
-use Rattle.desk_rules.specs.Plan.{row_cells, row_spans}
+use Rattle.desk_rules.specs.Outcome.{row_cells, row_spans}
 use Rattle.desk_store.specs.World.{plans_of}
 use Rattle.operator_index.specs.Roll.{state_cells_beside, state_spans_beside, plans_or_none}
 use Rattle.operator_index.proofs.lemmas.Roll.{counted}

@@ -32,7 +32,7 @@ use Rattle.row_codec.proofs.kept.GhostState.after.Statement as stated
 use Rattle.row_codec.proofs.kept.GhostState.after.Code as code
 use Rattle.row_codec.specs.contracts.kept.GhostState as kept
 use Rattle.desk_store.specs.contracts.change.Change as change
-use Rattle.desk_store.specs.StoreChange.{changed_by}
+use Rattle.desk_store.specs.Changes.{changed_by}
 
 abbrev stayed : Stays (f.ended).signature.params (f.ended).kept
 stayed = (

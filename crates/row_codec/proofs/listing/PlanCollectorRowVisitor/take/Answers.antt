@@ -1,5 +1,5 @@
 use Rattle.std.proofs.Common.{◌∷◌}
-use Rattle.row_codec.specs.Gathering.{BeginNoListing}
+use Rattle.row_codec.specs.RowsRead.{BeginNoListing}
 use Rattle.row_codec.proofs.lemmas.Collector.{never_ungathered}
 use Rattle.row_codec.proofs.lemmas.Unread.{refused_by}
 use Rattle.row_codec.proofs.listing.PlanCollectorRowVisitor.take.Goals as goal

@@ -1,6 +1,5 @@
 use Rattle.std.proofs.Common.{sym, ap, ◌∙◌}
-use Rattle.s2_cover.specs.Leaves.{leaves_of}
-use Rattle.s2_cover.specs.Ranges.{spans_have}
+use Rattle.s2_cover.specs.Covers.{leaves_of, spans_have}
 use Rattle.s2_cover.proofs.Laid.{canonical_same}
 use Rattle.s2_cover.proofs.covers.Cover.of_ranges.Goals as goal
 

@@ -1,4 +1,4 @@
-use Rattle.s2_cover.specs.Leaves.{leaves_of}
+use Rattle.s2_cover.specs.Covers.{leaves_of}
 use Rattle.s2_cover.proofs.Laid.{canonical_ascends}
 use Rattle.s2_cover.proofs.covers.Cover.ranges.Goals as goal
 

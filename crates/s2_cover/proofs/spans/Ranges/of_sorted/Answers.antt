@@ -1,6 +1,5 @@
 use Rattle.std.proofs.Common.{◌+◌, arith}
-use Rattle.s2_cover.specs.Leaves.{leaves_of}
-use Rattle.s2_cover.specs.Ranges.{IsRanges}
+use Rattle.s2_cover.specs.Covers.{leaves_of, IsRanges}
 use Rattle.s2_cover.proofs.Merging.{IsSpanOf, merged_joined, merged_opened, merged_all, span_of_rest, ranges_alone}
 use Rattle.s2_cover.proofs.spans.Ranges.of_sorted.Goals as goal
 use Rattle.s2_cover.proofs.spans.Ranges.of_sorted.Goals.{then-span-current, else-span-current+in_ok-push}

@@ -2,7 +2,7 @@ use Rattle.std.proofs.Common.{◌&&◌, ◌∙◌, ap, rules, sym, tests}
 use Rattle.std.proofs.lemmas.Iterator.{YieldsList-from_slice}
 use Rattle.std.proofs.lemmas.Iterator.Search.{any_from_yields_List}
 use Rattle.std.specs.List.{list_any}
-use Rattle.volume4d.specs.Bounds.{overlap}
+use Rattle.volume4d.specs.Slab.{overlap}
 use Rattle.slab_regions.proofs.sought.SearchArea.meets.Goals as goal
 
 pub returns : goal.returns

@@ -1,5 +1,5 @@
 use Rattle.std.proofs.Common.{◌≡◌, rules}
-use Rattle.desk_sql.specs.Volumes.{volume_part}
+use Rattle.desk_sql.specs.Rows.{volume_part}
 use Rattle.table_load.proofs.CoverLemmas.{compared_on}
 use Rattle.table_load.proofs.covers.CoverCheck.add.Goals as goal
 

@@ -1,6 +1,6 @@
 use Rattle.std.proofs.Common.{◌≡◌, ◌∙◌, ap, subst, sym}
 use Rattle.std.specs.Prelude.{if◌then◌else◌}
-use Rattle.uss_desk.specs.LineRecord.{next_number}
+use Rattle.uss_desk.specs.Finishing.{next_number}
 use Rattle.uss_desk.proofs.FinishLemmas.{numbered}
 use Rattle.uss_desk.proofs.recording.JournalFolder.recover.Goals as goal
 use Rattle.uss_desk.proofs.recording.JournalFolder.recover.Goals.{then-is_asked, else-is_asked}

@@ -1,6 +1,5 @@
 use Rattle.std.proofs.Common.{subst}
-use Rattle.uss_desk.specs.OpenedLines.{AreReadsTested}
-use Rattle.uss_desk.specs.Rolls.{HasNotedDesk}
+use Rattle.uss_desk.specs.OpenedFor.{AreReadsTested, HasNotedDesk}
 use Rattle.uss_desk.proofs.session.Session.recover.Goals as goal
 
 pub returns-in-Ok-clause-noted : goal.returns-in-Ok-clause-noted

@@ -1,7 +1,7 @@
 use Rattle.std.proofs.Common.{subst}
-use Rattle.desk_store.specs.Crashes.{LeavesOldOr}
-use Rattle.desk_store.specs.StoreChange.{changed_by}
-use Rattle.table_load.specs.Leaving.{MayLeave}
+use Rattle.desk_store.specs.World.{LeavesOldOr}
+use Rattle.desk_store.specs.Changes.{changed_by}
+use Rattle.table_load.specs.Files.{MayLeave}
 use Rattle.uss_desk.proofs.watching.PathCheckedPlanStore.apply.Goals as goal
 
 pub returns-clause-crash : goal.returns-clause-crash

@@ -1,7 +1,7 @@
 use Rattle.std.proofs.Common.{◌≡◌, ◌*◌, ◌≤◌, take}
 use Rattle.std.specs.List.{sum_by}
 use Rattle.volume4d.specs.VolumeLimits.{max_cover}
-use Rattle.volume4d.specs.SpanCounts.{volume_cells}
+use Rattle.volume4d.specs.Volume.{volume_cells}
 use Rattle.volume4d.proofs.area.Area.cell_count.Given as goal
 
 -- the cells of the volumes so far, of which each has at most as many as the cover of a rectangle

@@ -1,8 +1,7 @@
 use Rattle.std.proofs.Common.{◌≡◌, ◌∙◌, subst}
 use Rattle.std.specs.Prelude.{IfOk}
 use Rattle.std.proofs.lemmas.Result.{IfOk-weaker}
-use Rattle.volume4d.specs.Point.{Point}
-use Rattle.volume4d.specs.Volume.{area_has}
+use Rattle.volume4d.specs.Volume.{Point, area_has}
 use Rattle.volume4d.specs.Slab.{slabs_have}
 use Rattle.volume4d.proofs.SlabPoints.{sorted_points}
 use Rattle.volume4d.proofs.area.Area.slabs.Goals as goal

@@ -1,7 +1,7 @@
 use Rattle.std.proofs.Common.{◌≡◌, ◌*◌, ◌≤◌, take}
 use Rattle.std.specs.List.{sum_by}
 use Rattle.volume4d.specs.VolumeLimits.{max_cover}
-use Rattle.volume4d.specs.SpanCounts.{volume_spans}
+use Rattle.volume4d.specs.Volume.{volume_spans}
 use Rattle.volume4d.proofs.area.Area.span_count.Given as goal
 
 -- the slabs of the volumes so far, of which each has at most as many as the cover of a rectangle

@@ -1,7 +1,6 @@
 use Rattle.std.proofs.Common.{◌∙◌, ap, sym}
 use Rattle.std.proofs.lemmas.Result.{on_ok_weaker}
-use Rattle.volume4d.specs.Level.{greater, level_where}
-use Rattle.volume4d.specs.Slab.{slabs_have, top_held}
+use Rattle.volume4d.specs.Slab.{greater, level_where, slabs_have, top_held}
 use Rattle.desk_run.proofs.ListingLemmas.{apart_plans, counted, uncounted, unheld}
 use Rattle.desk_run.proofs.pending.own.OwnPlan.push_blocking.Goals as goal
 

@@ -1,6 +1,5 @@
 use Rattle.std.proofs.Common.{subst, sym}
-use Rattle.volume4d.specs.Bounds.{IsBounds}
-use Rattle.volume4d.specs.Slab.{slabs_have}
+use Rattle.volume4d.specs.Slab.{IsBounds, slabs_have}
 use Rattle.desk_run.proofs.ListingLemmas.{closed_held, live_held}
 use Rattle.desk_run.proofs.pending.own.OwnPlan.try_new.Goals as goal
 

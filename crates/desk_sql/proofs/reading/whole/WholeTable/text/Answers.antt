@@ -1,5 +1,5 @@
 use Rattle.std.proofs.Common.{sym, subst}
-use Rattle.desk_sql.specs.WholeTables.{ShowsWhole}
+use Rattle.desk_sql.specs.Queries.{ShowsWhole}
 use Rattle.desk_sql.proofs.reading.whole.WholeTable.text.Goals as goal
 
 pub returns-in-Operators : goal.returns-in-Operators
