@@ -56,8 +56,8 @@ abbrev pub FindsEnrolments :
 FindsEnrolments H (Ok done) es w after found = found ≡ Some after.content
 FindsEnrolments H (Err fault) es w after found = AreKeptSoFar H es w after found
 
--- what the next start finds after enrolments is what they left; or, if one failed, what one more would
--- leave. If nothing was changed, it may be what could have been found before (`before`)
+-- what the next start finds after new enrolments: if all were made, what they left; if one failed, what those
+-- before it left, or one more. If nothing was changed, it may find what it could find before (`before`)
 abbrev pub FindsNewEnrolments :
     {A B : Type 0} → Result A B → List Enrolment → DeskWorld → DeskWorld → (Option World → Type 0)
     → (Option World → Type 0) → Type 0

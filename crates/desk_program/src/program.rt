@@ -139,8 +139,9 @@ pub fn set_up<S: PlanStore>(
     enrol_all(desk, enrolments)
 }
 
-/// Enrols the operators that are new while a desk serves, in the order given. If there are none, the desk is
-/// left as it is.
+/// Enrols these operators while a desk serves, in the order given; one that is enrolled already gets this
+/// ceiling. If there are none, the desk is left as it is. After a crash on the way, a start finds those that
+/// were made, or one more (`found`).
 ///
 /// # Errors
 ///

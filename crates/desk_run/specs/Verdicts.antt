@@ -174,7 +174,7 @@ shown_plan permitted rows others row =
       conflict = conflict_shown permitted rows others row;
     }
 
--- these two in the world `w`
+-- `conflict_shown` of an operator's plan in the world `w`; below, `shown_plan` of one there
 abbrev pub conflict_shown_in : List ℕ → World → List ℕ → PlanRow → Option Spot
 conflict_shown_in permitted w operator row =
     conflict_shown permitted (plans_of operator w) (held w operator) row

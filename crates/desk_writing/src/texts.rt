@@ -80,7 +80,7 @@ fn json_answer(
     Ok(response_text(alloc, status, allow, body.as_str())?.into_bytes())
 }
 
-// The response with this status and this body, which is JSON; `allow` is as in `error_answer`.
+// The response with this status and this body, which its head calls JSON; `allow` is as in `error_answer`.
 fn response_text(
     alloc: Global,
     status: StatusCode,

@@ -227,7 +227,7 @@ abbrev pub taken_text : Bool → List ℕ
 taken_text true = codes "a name that SQLite reads otherwise than as a path"
 taken_text false = codes "it is there already"
 
--- nothing is at the path, for a command that makes the file
+-- a command makes the file, and nothing is at its path
 abbrev pub is_free : FileState → Bool
 is_free state.Free = true
 is_free _ = false

@@ -110,7 +110,8 @@ fn cause_of<P: Folder>(folder: &mut P, path: &str, state: FileState) -> &'static
     }
 }
 
-// Whether nothing is at the path, for a command that makes the file.
+// Whether a command makes the file and nothing is at its path. (For a command that makes none, nothing there
+// is `Missing`.)
 fn is_free(state: FileState) -> bool
     ensures { result ≡ spec.is_free state }
 {

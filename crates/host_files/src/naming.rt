@@ -59,8 +59,8 @@ pub trait Folder {
     fn remove(&mut self, path: &str) -> bool
         ensures { Takes (course (steps self.old) (steps self.new)) result (Removed path.now) };
 
-    /// Renames the file `from` to `to`, and returns whether that succeeded. If the file system has modes,
-    /// only the owner can then read and write it.
+    /// Renames the file `from` to `to`, and returns whether that succeeded. Before that it asks the file
+    /// system to let only the owner read and write the file; whether that was done isn't returned.
     fn rename(&mut self, from: &str, to: &str) -> bool
         ensures { Takes (course (steps self.old) (steps self.new)) result (Renamed from.now to.now) };
 
@@ -74,6 +74,8 @@ pub trait Folder {
         ensures { Takes (course (steps self.old) (steps self.new)) result (Ordered path.now) };
 }
 
+// The steps of a `LocalHost` are not known (`steps` is None), so the trait's clauses promise nothing of these
+// bodies: tests and a check of the sources look at what they ask of the system.
 impl Folder for LocalHost<'_> {
     fn is_free(&mut self, path: &str) -> bool {
         !is_no_path(path) && matches!(fs::exists(self.rt, path), Ok(false))
@@ -170,8 +172,8 @@ fn is_left<F: HostFiles>(files: &F, source: &str, path: &str) -> bool
     }
 }
 
-// Removes the file `part` and its WAL `log`, which are locked meanwhile. The WAL goes first: if that fails,
-// both stay. Returns why they weren't removed, or `None`.
+// Removes the file `part` and its WAL `log`, which are locked meanwhile; opening them makes one that is
+// missing. The WAL goes first: if that fails, both stay. Returns why they weren't removed, or `None`.
 fn clear_left(rt: &HostRuntime, part: &str, log: &str) -> Option<&'static str> {
     match sqlite_std_file::open(rt, part, Unknown) {
         Ok(_held) => match fs::remove_file(rt, log).and_then(|()| fs::remove_file(rt, part)) {

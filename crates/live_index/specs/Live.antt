@@ -287,8 +287,9 @@ is_missed_at wanted keys x live =
 abbrev pub IsNotOwnPlan : Wanted → PlanKey → Type 0
 IsNotOwnPlan wanted k = (is_id wanted.id k.id && is_eq (text_cmp wanted.operator k.operator)) ≡ false
 
--- plans were added for the volumes `lives`, and none was dropped; if `new` is complete, no volume is missed
--- at the points that pass the test `inside`
+-- plans were listed for the volumes `lives`, and none was dropped. If `new` is complete, `old` was (`still`),
+-- and no volume is missed at the points that pass the test `inside`. A plan that `wanted` leaves out is not
+-- listed anew (`another`); others may be listed that have no such point
 pub record AddsPlans (wanted : Wanted) (inside : Point → Bool) (lives : List LiveVolume)
     (old new : NearPlans) : Type 0
   where

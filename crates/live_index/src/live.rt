@@ -159,7 +159,8 @@ impl LiveIndex {
         near.if_complete(alloc)
     }
 
-    // Adds the wanted plans that have a volume near `sought` to `near`.
+    // Lists in `near` the plans that have a volume near `sought`, but those that `wanted` leaves out, until a
+    // limit of `near` is exceeded.
     fn add_near(
         &self,
         near: &mut NearPlans,

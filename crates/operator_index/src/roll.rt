@@ -122,8 +122,8 @@ impl OperatorIndex {
 // ---- opening
 
 impl OperatorIndex {
-    /// Lists an operator with its ceiling, as a store's rows are read. One that is listed already keeps its
-    /// ceiling.
+    /// Lists an operator with its ceiling: an opening does so for each row of operators that it reads. An
+    /// operator that is listed already keeps its ceiling.
     ///
     /// # Errors
     ///

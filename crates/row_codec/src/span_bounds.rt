@@ -108,7 +108,7 @@ impl SpanBounds {
         }
     }
 
-    // The same bounds with a `bound` of at least `length` positions.
+    // The bounds with the greater of their `bound` and `length`; the long spans stay as they are.
     fn with_bound(&self, length: u64) -> SpanBounds
         ensures kept { Keeps self.now result }
         ensures bound { length ≤ result.bound }

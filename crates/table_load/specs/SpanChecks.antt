@@ -78,8 +78,8 @@ IsNextRow ps old new row is = MatchBool is
     ((rest : List Row) → Awaits ps old (row ∷ rest) ↔ Awaits ps new rest)
     ((rest : List Row) → ¬ Awaits ps old (row ∷ rest))
 
--- these rows were compared with plans: `agree` says whether they are the plans' first rows, `count` how many
--- they are, and `span_bounds` hold for their spans
+-- these rows were compared with plans: `agree` says whether they are the plans' first rows, `at` is then the
+-- place of the next one (`same`); `count` is how many they are, and `span_bounds` hold for their spans
 pub record HasChecked (ps : List Filed) (at : Place) (agree : Bool) (count : ℕ) (span_bounds : SpanBounds)
     (rows : List Row) : Type 0
   where

@@ -510,9 +510,9 @@ fn joined(mut operators: Vec<Enrolment>, others: &[Enrolment]) -> Result<Vec<Enr
     Ok(operators)
 }
 
-// Makes the file of a new journal in `folder` under its temporary name, and writes its first entries: its
-// `number`, the settings `terms` and the `operators`. If that fails, the error is `Write` or `Memory`, and a
-// failure of the file is reported.
+// Makes the file of a new journal in `folder` under its temporary name, in place of one that was left there,
+// and writes its first entries to the disk: version and `number`, the settings `terms`, the `operators`. If
+// that fails, the error is `Write` or `Memory`, and a failure of the file is reported.
 fn begin_part<'s>(
     host: LocalHost<'s>,
     folder: &'s str,

@@ -130,7 +130,8 @@ impl<S: Alter> DeskTables<S> {
 }
 
 // The plan whose row of `plan` is `head` and whose rows of `volume2` are `rows`: their volumes are in the
-// columns from the fourth, `lower`, on. `Store` if they are not those of a valid plan.
+// columns from index 3, `lower`, on. `Store` only if they are not those of a valid plan; `OutOfMemory` if
+// memory runs out.
 fn plan_of_rows(alloc: Global, head: &Row, rows: &[Row]) -> Result<PlanRow, StoreFault>
     ensures value { IfOk result (λ plan. (p : Plan) → IsId p.id → IsHead head.now p
         → AllByRecursion IsValidVolume p.area → AllZip (λ row v. IsVolumeAt row 3 v) rows.now p.area
