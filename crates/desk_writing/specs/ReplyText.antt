@@ -175,7 +175,7 @@ shown_data shown = object (
 
 -- the body that lists plans, in their order
 abbrev pub plans_data : List Shown → Data
-plans_data plans = object (member (codes "flight_plans") (array (items_of (map shown_data plans))) no_members)
+plans_data shown = object (member (codes "flight_plans") (array (items_of (map shown_data shown))) no_members)
 
 -- the JSON body of the answer that gives a reply
 abbrev pub reply_data : ReplyParts → Data
