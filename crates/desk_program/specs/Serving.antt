@@ -191,8 +191,8 @@ error_in (Err failure) = Some failure
 
 -- the first of two failures, or else the second; None if there is neither
 abbrev pub first_failure : Option ErrorCode → Option ErrorCode → Option ErrorCode
-first_failure None then = then
-first_failure (Some failure) then = Some failure
+first_failure None later = later
+first_failure (Some failure) later = Some failure
 
 -- the errors of a port: memory ran out, a write failed, no connection can be had, the clock is out of range,
 -- or the journal can't be written
