@@ -13,7 +13,7 @@ use Rattle.desk_replay.specs.Replaying.{State, played}
 use Rattle.desk_cli.specs.declared.{failure.ErrorCode.ErrorCode, failure.ErrorCode.TheVariants.Broken, failure.ErrorCode.TheVariants.Network, failure.ExitReport.ExitReport, line.PlayArgs.PlayArgs, line.Enrolment.Enrolment}
 use Rattle.desk_cli.specs.declared.failure.ErrorCode.TheVariants as failure
 use Rattle.desk_cli.specs.Exits.{Ending, EndsWith, FailsWith, failure_at}
-use Rattle.desk_program.specs.{Enrolling.Ended, Enrolling.Noted, Enrolling.Open, Enrolling.Recorded, Enrolling.IsEndCounted, Enrolling.with_operators, Enrolling.IsCutOff, Enrolling.answer_entry, Enrolling.operator_entry, Enrolling.request_entry, Serving.Parting, Serving.Traffic, Serving.parted, Serving.Exchange, Keeping.ended, Keeping.IsFoundServed, Keeping.IsLeftByNews}
+use Rattle.desk_program.specs.{Enrolling.Ended, Enrolling.Noted, Enrolling.Open, Enrolling.Recorded, Enrolling.IsEndCounted, Enrolling.with_operators, Enrolling.JournalEnds, Enrolling.answer_entry, Enrolling.operator_entry, Enrolling.request_entry, Serving.Parting, Serving.Traffic, Serving.parted, Serving.Exchange, Keeping.ended, Keeping.IsFoundServed, Keeping.IsLeftByNews}
 use Rattle.desk_program.specs.{PortGiven.IsInputKept, PortGiven.IsInputPlayed}
 use Rattle.desk_program.specs.declared.port.ExchangeEnd.{ExchangeEnd}
 use Rattle.desk_recording.specs.Recording.{traffic_of}
@@ -201,7 +201,7 @@ caught_up w newly_enrolled moment (b ∷ request) =
 -- a journal is open with the text of m; or it ended with that text; or it ended with that text and entries
 -- after it that were not carried out
 abbrev pub EndsAs : Noted → Option Recorded → Type 0
-EndsAs m now = (now ≡ Some (Open m)) ⊎ (now ≡ Some (Ended m.text)) ⊎ IsCutOff m now
+EndsAs m now = (now ≡ Some (Open m)) ⊎ (now ≡ Some (Ended m.text)) ⊎ JournalEnds m now
 
 -- why a request has no answer: this couldn't be appended, and the journal ended; or the desk failed at it
 abbrev pub IsUnanswered : Noted → Option Recorded → Exchange → Type 0
