@@ -16,8 +16,7 @@ use Rattle.host_files.specs.Naming.{log_of, IsWrittenIfRoom, IsWrittenOnce, IsWr
 use Rattle.host_files.specs.declared.{files.Found.Found, state.Denial.Denial}
 use Rattle.host_files.specs.declared.state.Denial.TheVariants as denial
 use Rattle.desk_host.specs.declared.{logs.FoundLog.FoundLog, damage.LogCheck.LogCheck, damage.LogCheckError.LogCheckError, scratch.ScratchCopy.ScratchCopy, ways.ReadMode.ReadMode}
-use Rattle.desk_host.specs.declared.logs.FoundLog.TheVariants as log
-use Rattle.desk_host.specs.declared.logs.FoundLog.TheVariants as found
+use Rattle.desk_host.specs.declared.logs.FoundLog.TheVariants as found_log
 use Rattle.desk_host.specs.declared.damage.LogCheckError.TheVariants as unlooked
 use Rattle.desk_host.specs.declared.ways.ReadMode.TheVariants as way
 
@@ -93,9 +92,9 @@ is_alone it path = if is_gone (it.found path) then has_commit it path else false
 
 -- which WAL is found for a file
 abbrev pub IsLogAt : {R : Type 0} → read.Ghosts R → Answers → List ℕ → FoundLog R → Type 0
-IsLogAt r it path log.Alone = is_alone it path ≡ true
-IsLogAt r it path log.Nothing = (is_alone it path ≡ false) × IsLogBeside r it path None
-IsLogAt r it path (log.Log file) = (is_alone it path ≡ false) × IsLogBeside r it path (Some file)
+IsLogAt r it path found_log.Alone = is_alone it path ≡ true
+IsLogAt r it path found_log.Nothing = (is_alone it path ≡ false) × IsLogBeside r it path None
+IsLogAt r it path (found_log.Log file) = (is_alone it path ≡ false) × IsLogBeside r it path (Some file)
 
 -- ==== What is reported of a damaged WAL, and which files are admitted
 -- Here `copied` says that the command only copies the file; `writes` is what is written to standard error.
@@ -184,11 +183,11 @@ IsCheckReported copied path (Err it) writes = ⊥
 abbrev pub IsFoundChecked :
     {R E : Type 0} → read.Ghosts R → write.Ghosts E → Bool → List ℕ → FoundLog R → Result Bool ErrorCode
     → E → E → Type 0
-IsFoundChecked r w copied path found.Alone result before now =
+IsFoundChecked r w copied path found_log.Alone result before now =
     (result ≡ Err failure.Store) × IsWrittenIfRoom (line_of path alone_text) (bytes_written w before now)
-IsFoundChecked r w copied path found.Nothing result before now =
+IsFoundChecked r w copied path found_log.Nothing result before now =
     (result ≡ Ok false) × (w.contents now ≡ w.contents before)
-IsFoundChecked {R} {E} r w copied path (found.Log log) result before now =
+IsFoundChecked {R} {E} r w copied path (found_log.Log log) result before now =
     IfSome (r.remaining log) (λ bytes. HasLooked E copied path bytes result (bytes_written w before now))
 
 -- ==== The steps by which the scratch copy of a file is made and removed
