@@ -7,7 +7,7 @@ use Rattle.sqlite.specs.declared.{error.Error.Error, error.Error.TheVariants.Sql
 use Rattle.sqlite.specs.declared.error.ErrorCode.TheVariants as code
 use Rattle.sqlite_schema.specs.declared.schema.Index.{Index}
 use Rattle.sqlite_catalog.specs.Change.{without_table, without_index, KeepsRows}
-use Rattle.desk_sql.specs.{Schema.desk_schema, Schema.schema_of, Schema.packed_schema, Schema.old_span_first, Rows.IsDesk, Rows.is_same, Rows.tables_of, Rows.IsMadeTo, Rows.Tables, Rows.tables_at, Rows.old_tables_of, Statements.enforced, Statements.Extends, Statements.IsWriting, Statements.MayWrite}
+use Rattle.desk_sql.specs.{Schema.beside_of, Schema.desk_in, Schema.IsDeskSchema, Schema.schema_of, Schema.packed_schema, Schema.old_span_first, Rows.IsDesk, Rows.is_same, Rows.tables_of, Rows.IsMadeTo, Rows.Tables, Rows.tables_at, Rows.old_tables_of, Statements.enforced, Statements.Extends, Statements.IsWriting, Statements.MayWrite}
 use Rattle.desk_sql.specs.declared.opening.finding.{TablesPresent.TablesPresent, TablesPresent.TheVariants.Nothing, TablesPresent.TheVariants.Operators, TablesPresent.TheVariants.Plans, TablesPresent.TheVariants.OldVolumes, TablesPresent.TheVariants.OldSpans, TablesPresent.TheVariants.OldIndex, TablesPresent.TheVariants.Volumes, TablesPresent.TheVariants.Spans, TablesPresent.TheVariants.All, TablesPresent.TheVariants.Packed}
 
 -- ---- what SQLite can store
@@ -86,9 +86,9 @@ IsWholeIn text count (Err e) = ⊥
 -- a statement that, with these parameters, on a sound desk's tables for which `Fits` holds, fails only for
 -- lack of memory, a failure of the disk or a limit on steps
 pub record IsSureChange (text : List ℕ) (params : Row) (Fits : Database → Type 0) : Type 0 where
-  pub means : IsWholeIn text (length params) (understood desk_schema text)
+  pub means : (schema : Schema) → IsDeskSchema schema → IsWholeIn text (length params) (understood schema text)
   pub never : (limit : Option ℕ) (db : Database) (stop : Option Error) → IsDesk db → IsDatabase db → Fits db
-      → MayStop text (understood desk_schema text) params limit db stop → IsAtLimit limit stop
+      → MayStop text (understood db.schema text) params limit db stop → IsAtLimit limit stop
 
 -- ==== How the tables and the indexes are made, one after the other
 -- how many tables and indexes are still to be made
@@ -130,30 +130,33 @@ pub record IsStep (text : List ℕ) (made next : TablesPresent) : Type 0 where
       → ¬ MayStop text (understood (schema_of made) text) [] limit db stop
 
 -- ---- what a step makes
--- within a transaction, which goes on, all was made that was missing, and the rows that there were stayed
+-- within a transaction, which goes on, all was made that was missing. The rows that there were stayed, and what
+-- stands beside the desk's tables
 pub record Finishes {S : Type 0} (g : Ghosts S) (made : TablesPresent) (old new : Held S) : Type 0 where
   pub was_open : IsTrue (state g old).is_open
   pub is_open : IsTrue (state g new).is_open
   pub begun : IsTrue new.in_transaction
   pub committed : (state g new).committed ≡ (state g old).committed
   pub desk : IsDesk (state g new).now
+  pub beside : beside_of (state g new).now.schema ≡ beside_of (state g old).now.schema
   pub sound : IsDatabase (state g new).now
   pub same : tables_of (state g new).now.trees ≡ tables_at made (state g old).now.trees
 
--- all was made that was missing, and that was committed; the rows that there were stayed
+-- the same, and that was committed
 pub record Completes {S : Type 0} (g : Ghosts S) (made : TablesPresent) (old new : Held S) : Type 0 where
   pub was_open : IsTrue (state g old).is_open
   pub is_open : IsTrue (state g new).is_open
   pub settled : (state g new).now ≡ (state g new).committed
   pub desk : IsDesk (state g new).now
+  pub beside : beside_of (state g new).now.schema ≡ beside_of (state g old).now.schema
   pub same : tables_of (state g new).now.trees ≡ tables_at made (state g old).now.trees
 
 -- a desk's trees, which list and obey its schema, with the rows that there were
 pub record IsCompleted {S : Type 0} (g : Ghosts S) (made : TablesPresent) (old : Held S)
     (db : Trees) : Type 0 where
   pub was_open : IsTrue (state g old).is_open
-  pub desk : IsDesk (record { schema = desk_schema; trees = db })
-  pub sound : IsDatabase (record { schema = desk_schema; trees = db })
+  pub desk : IsDesk (record { schema = desk_in (state g old).now.schema; trees = db })
+  pub sound : IsDatabase (record { schema = desk_in (state g old).now.schema; trees = db })
   pub same : tables_of db ≡ tables_at made (state g old).now.trees
 
 -- a crash leaves what it could leave before, or all made
@@ -190,6 +193,7 @@ module _ {S : Type 0} (g : Ghosts S) (old new : Held S) where
     pub begun : IsTrue new.in_transaction
     pub committed : (state g new).committed ≡ (state g old).committed
     pub has : IsMadeTo OldSpans (state g new).now
+    pub beside : beside_of (state g new).now.schema ≡ beside_of (state g old).now.schema
     pub sound : IsDatabase (state g new).now
     pub same : old_tables_of (state g new).now.trees ≡ old_tables_of (state g old).now.trees
 

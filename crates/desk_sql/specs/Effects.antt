@@ -1,18 +1,19 @@
 -- What tables a database has, what a call requires of a connection, and what it preserves.
-use Rattle.std.specs.Prelude.{◌≡◌, ◌≢◌, List, [], ◌∷◌, ◌++◌, ℤ, Bool, ◌&&◌, int_lt, if◌then◌else◌, Option, None, Some, true, false, IsTrue, ◌⊎◌, ◌≤◌}
+use Rattle.std.specs.Prelude.{◌≡◌, List, [], ◌∷◌, ◌++◌, ℤ, Bool, ◌&&◌, int_lt, if◌then◌else◌, Option, None, Some, true, false, IsTrue, ◌⊎◌, ◌≤◌}
 use Rattle.std.specs.List.{AllByRecursion}
 use Rattle.sqlite.specs.{Order.Row, Tree.rowid, Tree.IsTable, Tree.Trees, View.is_int, View.doubt as doubt_of, Store.Ghosts, State.HasCleanDisk, Held.Held, Held.state, Effect.Database, Effect.IsDatabase}
 use Rattle.sqlite.specs.declared.types.{Value.Value, Value.TheVariants.Null, Value.TheVariants.Int, Value.TheVariants.Real, Value.TheVariants.Text, Value.TheVariants.Blob}
 use Rattle.desk_sql.specs.declared.opening.finding.TablesPresent.{TablesPresent}
-use Rattle.desk_sql.specs.{Schema.schema_of, Schema.desk_schema, Rows.IsDesk, Rows.Tables, Rows.tables_of}
+use Rattle.desk_sql.specs.{Schema.beside_of, Schema.desk_in, Schema.IsSchemaOf, Rows.IsDesk, Rows.Tables, Rows.tables_of}
 
 -- the database that an open connection over a clean disk shows has this property
 abbrev pub Holds : {S : Type 0} → Ghosts S → Held S → (Database → Type 0) → Type 0
 Holds g h Is = HasCleanDisk (state g h) → IsTrue (state g h).is_open → Is (state g h).now
 
--- other tables, indexes or views than a desk's, or in another order than its own and that of a packed file
+-- other tables, indexes or views than a desk's that don't stand apart behind all of it, or the desk's in another
+-- order than its own and that of a packed file
 abbrev pub HasOthers : Database → Type 0
-HasOthers db = (made : TablesPresent) → db.schema ≢ schema_of made
+HasOthers db = (made : TablesPresent) → ¬ IsSchemaOf made db.schema
 
 -- ---- rowids
 -- the number is above the last one, if there is one
@@ -71,13 +72,14 @@ module _ {S : Type 0} (g : Ghosts S) (old new : Held S) where
   abbrev pub StaysShown : Type 0
   StaysShown = HasCleanDisk (state g new) → IsTrue (state g new).is_open → ShowsAsBefore
 
-  -- within a transaction, which goes on, the tables were changed as `Changes` says
+  -- within a transaction, which goes on, the tables were changed as `Changes` says. What stands beside them stays
   pub record Makes (Changes : Tables → Tables → Type 0) : Type 0 where
     pub was_open : IsTrue (state g old).is_open
     pub is_open : IsTrue (state g new).is_open
     pub begun : IsTrue new.in_transaction
     pub committed : (state g new).committed ≡ (state g old).committed
     pub desk : IsDesk (state g new).now
+    pub beside : beside_of (state g new).now.schema ≡ beside_of (state g old).now.schema
     pub sound : IsDatabase (state g new).now
     pub changed : Changes (tables_of (state g old).now.trees) (tables_of (state g new).now.trees)
 
@@ -87,16 +89,18 @@ module _ {S : Type 0} (g : Ghosts S) (old new : Held S) where
     pub is_open : IsTrue (state g new).is_open
     pub settled : (state g new).now ≡ (state g new).committed
     pub desk : IsDesk (state g new).now
+    pub beside : beside_of (state g new).now.schema ≡ beside_of (state g old).now.schema
     pub changed : Changes (tables_of (state g old).now.trees) (tables_of (state g new).now.trees)
 
 -- ---- what a crash leaves
--- a desk's trees list and obey its schema, and their tables are those that the connection showed, changed so
+-- a desk's trees list and obey its schema, beside which stands what the connection showed, and their tables are
+-- those that it showed, changed so
 pub record IsMadeOf {S : Type 0} (g : Ghosts S) (old : Held S) (Changes : Tables → Tables → Type 0)
     (db : Trees) : Type 0
   where
     pub was_open : IsTrue (state g old).is_open
-    pub desk : IsDesk (record { schema = desk_schema; trees = db })
-    pub sound : IsDatabase (record { schema = desk_schema; trees = db })
+    pub desk : IsDesk (record { schema = desk_in (state g old).now.schema; trees = db })
+    pub sound : IsDatabase (record { schema = desk_in (state g old).now.schema; trees = db })
     pub changed : Changes (tables_of (state g old).now.trees) (tables_of db)
 
 module _ {S : Type 0} (g : Ghosts S) (old new : Held S) where

@@ -6,7 +6,7 @@ use Rattle.sqlite.specs.{Ops.is_null, Order.Row, Order.column, Order.value_cmp, 
 use Rattle.sqlite.specs.declared.types.{Value.Value, Value.TheVariants.Int, Value.TheVariants.Text, Value.TheVariants.Blob}
 use Rattle.desk_sql.specs.declared.opening.finding.{TablesPresent.TablesPresent, TablesPresent.TheVariants.Nothing, TablesPresent.TheVariants.Operators, TablesPresent.TheVariants.Plans, TablesPresent.TheVariants.OldVolumes, TablesPresent.TheVariants.OldSpans, TablesPresent.TheVariants.OldIndex, TablesPresent.TheVariants.Volumes, TablesPresent.TheVariants.Spans, TablesPresent.TheVariants.All, TablesPresent.TheVariants.Packed}
 use Rattle.desk_sql.specs.declared.{opening.numbers.DeskTable.DeskTable, opening.numbers.DeskTable.TheVariants.PackedVolume, opening.numbers.DeskTable.TheVariants.Volume, reading.rivals.SpanFilter.SpanFilter}
-use Rattle.desk_sql.specs.Schema.{desk_schema, schema_of, tree_of, has_table}
+use Rattle.desk_sql.specs.Schema.{IsDeskSchema, IsSchemaOf, tree_of, has_table}
 
 -- ---- what a row holds
 -- the rows of `operator`, and of `plan`, with these values
@@ -303,9 +303,10 @@ pub record Lists (cells : List ℕ) (wanted rows : List Row) : Type 0 where
   pub same : IsPermutation wanted rows
   pub sorted : IsSorted (by_cells cells) rows
 
--- a database with the desk's tables and their indexes, whose rowids are whole numbers, each once
+-- a database with the desk's tables and their indexes, whose rowids are whole numbers, each once. Other tables
+-- and views may stand beside them
 pub record IsDesk (db : Database) : Type 0 where
-  pub schema : db.schema ≡ desk_schema
+  pub schema : IsDeskSchema db.schema
   pub operators : AreNumbered (db.trees 0)
   pub plans : AreNumbered (db.trees 2)
   pub old_volumes : AreNumbered (db.trees 4)
@@ -318,9 +319,10 @@ abbrev pub AreNumberedTo : TablesPresent → Trees → Type 0
 AreNumberedTo made trees =
     (table : DeskTable) → has_table made table ≡ true → AreNumbered (trees (tree_of table))
 
--- a database that has the tables and indexes `made` and nothing else; its rowids are whole numbers, each once
+-- a database that has the tables and indexes `made`, whose rowids are whole numbers, each once. It has nothing
+-- else but what stands beside a whole desk
 pub record IsMadeTo (made : TablesPresent) (db : Database) : Type 0 where
-  pub schema : db.schema ≡ schema_of made
+  pub schema : IsSchemaOf made db.schema
   pub rows : AreNumberedTo made db.trees
 
 -- a span of another operator's plan that the filter `reach` selects

@@ -1,8 +1,10 @@
 -- The schema of the database, and the forms by which the program describes its tables and indexes.
-use Rattle.std.specs.Prelude.{true, false, [], ◌∷◌, List, ℕ, Bool, None, codes, ◌≡◌, ◌+◌, map}
+use Rattle.std.specs.Prelude.{true, false, [], ◌∷◌, List, ℕ, Bool, None, codes, ◌≡◌, ◌+◌, map, not, ◌&&◌, ◌++◌, drop, nat_lt}
+use Rattle.std.specs.List.{list_all, list_any}
 use Rattle.sqlite.specs.{Collation.TheVariants.Binary, Table.Table, Schema.Schema, Kind.Kind, Kind.TheVariants.Integer, Kind.TheVariants.Text, Kind.TheVariants.Blob, Effect.Database}
 use Rattle.sqlite.specs.declared.types.Value.TheVariants.{Null}
-use Rattle.sqlite_schema.specs.declared.schema.{Action.TheVariants.NoAction, Action.TheVariants.Cascade, Column.Column, Index.Index, Reference.Reference, Stamps.Stamps}
+use Rattle.sqlite_schema.specs.declared.schema.{Action.TheVariants.NoAction, Action.TheVariants.Cascade, Column.Column, Index.Index, Reference.Reference, Stamps.Stamps, View.View}
+use Rattle.sqlite_schema.specs.Names.{same_name}
 use Rattle.sqlite_value.specs.Keys.{plain}
 use Rattle.sqlite_catalog.specs.Change.{created, indexed}
 use Rattle.desk_sql.specs.declared.opening.finding.{TablesPresent.TablesPresent, TablesPresent.TheVariants.Nothing, TablesPresent.TheVariants.Operators, TablesPresent.TheVariants.Plans, TablesPresent.TheVariants.OldVolumes, TablesPresent.TheVariants.OldSpans, TablesPresent.TheVariants.OldIndex, TablesPresent.TheVariants.Volumes, TablesPresent.TheVariants.Spans, TablesPresent.TheVariants.All, TablesPresent.TheVariants.Packed}
@@ -183,6 +185,64 @@ packed_span_made = record span_table { tree = 10 }
 abbrev pub packed_schema : Schema
 packed_schema = indexed (indexed packed_table_schema old_span_made old_span_first) packed_span_made span_first
 
+-- ---- what may stand beside the desk's own tables: other tables, indexes and views, which come behind them
+-- The views have also each table, index and trigger that is kept unread, and a table to which one of these
+-- belongs. So none of them is on one of the desk's tables, as long as that is among the tables.
+pub record Beside : Type 0 where
+  pub tables : List Table
+  pub indexes : List Index
+  pub views : List View
+
+abbrev pub with_beside : Schema → Beside → Schema
+with_beside schema beside = record {
+  tables = schema.tables ++ beside.tables;
+  indexes = schema.indexes ++ beside.indexes;
+  views = schema.views ++ beside.views;
+}
+
+-- a desk's schema, and these beside it
+abbrev pub desk_with : Beside → Schema
+desk_with beside = with_beside desk_schema beside
+
+-- what comes behind as many tables and indexes as a desk has; it has no views
+abbrev pub beside_of : Schema → Beside
+beside_of schema =
+    record { tables = drop 6 schema.tables; indexes = drop 8 schema.indexes; views = schema.views }
+
+-- a desk's schema, and beside it what this schema has there
+abbrev pub desk_in : Schema → Schema
+desk_in schema = desk_with (beside_of schema)
+
+-- the number of a b-tree that is none of the desk's
+abbrev pub is_behind : ℕ → Bool
+is_behind tree = nat_lt 13 tree
+
+-- the names of the desk's tables
+abbrev pub own_names : List (List ℕ)
+own_names = codes "operator" ∷ codes "plan" ∷ codes "volume" ∷ codes "span" ∷ codes "volume2" ∷ codes "span2" ∷ []
+
+abbrev pub is_own_name : List ℕ → Bool
+is_own_name name = list_any (λ own. same_name own name) own_names
+
+-- a foreign key that refers to none of the desk's tables
+abbrev pub refers_elsewhere : Reference → Bool
+refers_elsewhere reference = not (is_own_name reference.parent)
+
+abbrev pub is_table_apart : Table → Bool
+is_table_apart table = is_behind table.tree && list_all refers_elsewhere table.references
+
+abbrev pub is_index_apart : Index → Bool
+is_index_apart index = is_behind index.table
+
+-- no table refers to one of the desk's, and no index is on one of them
+abbrev pub stands_apart : Beside → Bool
+stands_apart beside = list_all is_table_apart beside.tables && list_all is_index_apart beside.indexes
+
+-- the desk's tables and indexes, and others beside them that stand apart
+pub record IsDeskSchema (schema : Schema) : Type 0 where
+  pub is : schema ≡ desk_in schema
+  pub apart : stands_apart (beside_of schema) ≡ true
+
 -- the schema of a database that has the tables and indexes `made`
 abbrev pub schema_of : TablesPresent → Schema
 schema_of Nothing = blank_schema
@@ -195,6 +255,11 @@ schema_of Volumes = volume_schema
 schema_of Spans = table_schema
 schema_of All = desk_schema
 schema_of Packed = packed_schema
+
+-- a database has the tables and indexes `made`. If it has all, in canonical order, others may stand beside them
+abbrev pub IsSchemaOf : TablesPresent → Schema → Type 0
+IsSchemaOf All schema = IsDeskSchema schema
+IsSchemaOf made schema = schema ≡ schema_of made
 
 -- ---- the tables as they stand among others
 abbrev pub operator_made : Table
@@ -278,14 +343,15 @@ has_table Packed desk.PackedVolume = true
 has_table Packed desk.PackedSpan = true
 has_table Packed table = is_old table
 
--- these, with any indexes
-abbrev pub schema_to : DeskTable → List Table → List Index → Schema
-schema_to table others indexes = record { tables = tables_to table others; indexes = indexes; views = [] }
+-- these, with any indexes and views
+abbrev pub schema_to : DeskTable → List Table → List Index → List View → Schema
+schema_to table others indexes views =
+    record { tables = tables_to table others; indexes = indexes; views = views }
 
 -- a database with the table, in its tree
 pub record HasTable (table : DeskTable) (db : Database) : Type 0 where
   pub others : List Table
-  pub schema : db.schema ≡ schema_to table others db.schema.indexes
+  pub schema : db.schema ≡ schema_to table others db.schema.indexes db.schema.views
 
 -- ==== The tables and indexes of a desk: the program's forms of them, and what these stand for in a schema
 -- ---- the parts of a table and of an index

@@ -8,7 +8,7 @@ use Rattle.sqlite.specs.declared.error.ErrorCode.TheVariants as code
 use Rattle.sqlite.specs.{Effect.Database, Effect.RefusesToRead, Effect.Reads, Order.Row, Listing.understood, Listing.reads_listing, Store.Ghosts, Held.Held, Held.state, Schema.Schema, Tree.Trees, Tree.rowid, Does.Tally, Does.Does, Calls.IsWrite, State.text_of, Given.IsPlain}
 use Rattle.sqlite_schema.specs.Program.{lets_of}
 use Rattle.desk_sql.specs.declared.{opening.finding.TablesPresent.TablesPresent, opening.numbers.DeskTable.DeskTable}
-use Rattle.desk_sql.specs.{Schema.schema_of, Schema.tree_of, Schema.desk_schema, Schema.HasTable, Rows.AreNumbered, Rows.IsMadeTo, Rows.IsDesk, Rows.Tables, Rows.tables_of, Rows.tables_at, Rows.Lists}
+use Rattle.desk_sql.specs.{Schema.schema_of, Schema.tree_of, Schema.beside_of, Schema.IsDeskSchema, Schema.IsSchemaOf, Schema.HasTable, Rows.AreNumbered, Rows.IsMadeTo, Rows.IsDesk, Rows.Tables, Rows.tables_of, Rows.tables_at, Rows.Lists}
 
 -- a command that reads, under a schema and given these parameters, is refused by a limit on steps alone
 abbrev pub NeverRefuses : Schema → Command → Row → Type 0
@@ -51,7 +51,7 @@ too_big_as_out_of_memory e = e
 -- the schema's tables, so far as they are made, but in one of them a rowid is no whole number, or comes twice
 pub record IsMisnumbered (db : Database) : Type 0 where
   pub made : TablesPresent
-  pub schema : db.schema ≡ schema_of made
+  pub schema : IsSchemaOf made db.schema
   pub unsound : ¬ IsMadeTo made db
 
 module _ {S : Type 0} (g : Ghosts S) (old new : Held S) where
@@ -85,9 +85,9 @@ MayRead (Err e) db params rows = ⊥
 -- a query that, with these parameters, only memory, the disk and a limit on steps refuse, and that returns
 -- just the rows `wanted` of a desk's tables, ordered by the columns `cells`
 pub record Selects (text : List ℕ) (params : Row) (cells : List ℕ) (wanted : Tables → List Row) : Type 0 where
-  pub sure : IsSureGiven desk_schema text params
+  pub sure : (schema : Schema) → IsDeskSchema schema → IsSureGiven schema text params
   pub rows : (db : Database) (shown : List Row) → IsDesk db
-      → MayRead (understood desk_schema text) db params shown → Lists cells (wanted
+      → MayRead (understood db.schema text) db params shown → Lists cells (wanted
       (tables_of db.trees)) shown
 
 -- a query without parameters that, wherever the table exists, only memory, the disk and a limit on steps
@@ -127,18 +127,21 @@ MayCount text (Ok c) params limit old new count =
     × (count ≡ unwrap_or tally.rows 0)
 MayCount text (Err e) params limit old new count = ⊥
 
--- a statement that returns no rows, and with these parameters changes the schema's tables as `Change` says
+-- a statement that returns no rows, and with these parameters changes the desk's tables as `Change` says. The
+-- schema stays
 pub record Changes (text : List ℕ) (params : Row) (Change : Tables → Tables → Type 0) : Type 0 where
-  pub plain : IsPlain (understood desk_schema text)
-  pub writes : IsWriting (understood desk_schema text)
+  pub plain : (schema : Schema) → IsDeskSchema schema → IsPlain (understood schema text)
+  pub writes : (schema : Schema) → IsDeskSchema schema → IsWriting (understood schema text)
   pub tables : (limit : Option ℕ) (old new : Database) → IsDesk old
-      → MayWrite text (understood desk_schema text) params limit old new
-      → IsDesk new × Change (tables_of old.trees) (tables_of new.trees)
+      → MayWrite text (understood old.schema text) params limit old new
+      → IsDesk new × Change (tables_of old.trees) (tables_of new.trees) × (new.schema ≡ old.schema)
 
--- a statement that returns no rows and makes `next` of `made`; the rows that there were stay
+-- a statement that returns no rows and makes `next` of `made`; the rows that there were stay, and so does what
+-- stands beside the desk's tables
 pub record Extends (text : List ℕ) (made next : TablesPresent) : Type 0 where
   pub plain : IsPlain (understood (schema_of made) text)
   pub writes : IsWriting (understood (schema_of made) text)
   pub tables : (limit : Option ℕ) (old new : Database) → IsMadeTo made old
       → MayWrite text (understood (schema_of made) text) [] limit old new
       → IsMadeTo next new × (tables_at next new.trees ≡ tables_at made old.trees)
+      × (beside_of new.schema ≡ beside_of old.schema)

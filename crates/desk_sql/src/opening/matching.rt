@@ -1,12 +1,14 @@
 //! Whether a database has the tables and indexes of the schema, part by part.
 
-ghost use Rattle.std.specs.Prelude.{◌≡◌, ◌≢◌, ◌↔◌, ◌<◌, ◌-◌, ◌^◌, [], ◌∷◌, IsTrue, MatchOption, map};
+ghost use Rattle.std.specs.Prelude.{◌≡◌, ◌↔◌, ◌<◌, ◌-◌, ◌^◌, [], ◌∷◌, IsTrue, MatchOption, map};
 ghost use Rattle.sqlite_value.specs.Keys.{plain};
-ghost use Rattle.desk_sql.specs.Schema.{column_of, leaf_index_of, schema_of, no_stamps, without_extras, plain_table, key_index, column_from, name_from, reference_from, table_from, tables_from, index_from, schema_from};
+ghost use Rattle.std.specs.List.{list_all};
+ghost use Rattle.desk_sql.specs.Schema.{is_behind, is_own_name, refers_elsewhere, is_table_apart, is_index_apart, IsDeskSchema, IsSchemaOf, column_of, leaf_index_of, schema_of, no_stamps, without_extras, plain_table, key_index, column_from, name_from, reference_from, table_from, tables_from, index_from, schema_from};
 
 use crate::opening::finding::TablesPresent;
 use crate::opening::objects::{ColumnForm, DeskObject, ReferenceForm, TableForm, objects};
 use sqlite_items::Items;
+use sqlite_schema::names::same_name;
 use sqlite_schema::schema::{Action, Column, Index, Kind, Reference, Schema, Stamps, Table};
 use sqlite_value::keys::{Collation, Order};
 use sqlite_value::value::{Bytes, Value};
@@ -230,17 +232,83 @@ fn has_objects(schema: &Schema, objects: &[DeskObject]) -> bool
         && has_no_views(schema)
 }
 
-/// Whether the database has the tables and indexes of `made`, and nothing else.
-fn is_made(schema: &Schema, made: TablesPresent) -> bool
-    ensures { IsTrue result ↔ (schema.now ≡ schema_of made) }
+/// Whether `tree` is the number of a b-tree that is none of the desk's.
+fn is_behind(tree: u32) -> bool
+    ensures { result ≡ is_behind tree }
 {
-    has_objects(schema, objects(made))
+    tree > 13
 }
 
-/// Which tables and indexes of the schema the database has; `None` if there is anything else.
+/// Whether one of the desk's tables has this name, in either case.
+fn is_own_name(name: &[u8]) -> bool
+    ensures { result ≡ is_own_name name.now }
+{
+    same_name(b"operator", name)
+        || same_name(b"plan", name)
+        || same_name(b"volume", name)
+        || same_name(b"span", name)
+        || same_name(b"volume2", name)
+        || same_name(b"span2", name)
+}
+
+/// Whether none of these foreign keys refers to one of the desk's tables.
+fn refer_elsewhere(references: &[Reference]) -> bool
+    ensures { result ≡ list_all refers_elsewhere references.now }
+{
+    references
+        .iter()
+        .all(|reference| !is_own_name(reference.parent.as_slice()))
+}
+
+/// Whether none of these tables is one of the desk's or refers to one.
+fn are_tables_apart(tables: &[Table]) -> bool
+    ensures { result ≡ list_all is_table_apart tables.now }
+{
+    tables
+        .iter()
+        .all(|table| is_behind(table.tree) && refer_elsewhere(table.references.as_slice()))
+}
+
+/// Whether none of these indexes is on one of the desk's tables.
+fn are_indexes_apart(indexes: &[Index]) -> bool
+    ensures { result ≡ list_all is_index_apart indexes.now }
+{
+    indexes.iter().all(|index| is_behind(index.table))
+}
+
+/// Whether the database has all tables and indexes of a desk, in canonical order, and all others stand apart
+/// behind them.
+fn is_desk(schema: &Schema) -> bool
+    ensures { IsTrue result ↔ IsDeskSchema schema.now }
+{
+    let own = objects(TablesPresent::All);
+    if schema.tables.len() < 6 || schema.indexes.len() < 8 {
+        return false;
+    }
+    let (tables, other_tables) = schema.tables.as_slice().split_at(6);
+    let (indexes, other_indexes) = schema.indexes.as_slice().split_at(8);
+    are_tables(tables, own)
+        && all_match(indexes, own)
+        && are_tables_apart(other_tables)
+        && are_indexes_apart(other_indexes)
+}
+
+/// Whether the database has the tables and indexes of `made`, and nothing else but what stands apart beside a
+/// whole desk.
+fn is_made(schema: &Schema, made: TablesPresent) -> bool
+    ensures { IsTrue result ↔ IsSchemaOf made schema.now }
+{
+    match made {
+        TablesPresent::All => is_desk(schema),
+        made => has_objects(schema, objects(made)),
+    }
+}
+
+/// Which tables and indexes of the schema the database has; `None` if there is anything else but what stands
+/// apart beside a whole desk.
 pub(crate) fn tables_present(schema: &Schema) -> Option<TablesPresent>
-    ensures { MatchOption result ((made : TablesPresent) → schema.now ≢ schema_of made)
-        (λ made. schema.now ≡ schema_of made) }
+    ensures { MatchOption result ((made : TablesPresent) → ¬ IsSchemaOf made schema.now)
+        (λ made. IsSchemaOf made schema.now) }
 {
     'steps: for made in [
         TablesPresent::All,

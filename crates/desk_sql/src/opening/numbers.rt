@@ -2,7 +2,7 @@
 
 ghost use Rattle.std.specs.Prelude.{◌≡◌, ◌&&◌, List, [], ◌∷◌, true, false, IsTrue, OnOk, OnErr, IfErr};
 ghost use Rattle.sqlite.specs.{Order.Row as Values, Tree.rowid, State.HasCleanDisk, Held.state};
-ghost use Rattle.desk_sql.specs.{Schema.HasTable, Schema.schema_of, Schema.has_table, Schema.is_old, Schema.tree_of, Rows.AreNumbered, Rows.IsMadeTo, Statements.AreRowsUnread, Statements.IsUnnumbered, Statements.too_big_as_out_of_memory, Statements.SelectsAll, Statements.rowids, Effects.Holds, Effects.next_above, Effects.rises, Effects.OnlyReads, Effects.IsReady};
+ghost use Rattle.desk_sql.specs.{Schema.HasTable, Schema.IsSchemaOf, Schema.has_table, Schema.is_old, Schema.tree_of, Rows.AreNumbered, Rows.IsMadeTo, Statements.AreRowsUnread, Statements.IsUnnumbered, Statements.too_big_as_out_of_memory, Statements.SelectsAll, Statements.rowids, Effects.Holds, Effects.next_above, Effects.rises, Effects.OnlyReads, Effects.IsReady};
 
 use crate::opening::finding::TablesPresent;
 use crate::reading::taking::{RowVisitor, visit_rows};
@@ -215,7 +215,7 @@ fn test_rowids_if_made<S: Alter>(
     made: TablesPresent,
     table: DeskTable,
 ) -> Result<(), Error>
-    requires ready { IsReady S.Store connection.old (λ db. db.schema ≡ schema_of made) }
+    requires ready { IsReady S.Store connection.old (λ db. IsSchemaOf made db.schema) }
     ensures numbered { OnOk result (has_table made table ≡ true → Holds S.Store connection.new
         (λ db. AreNumbered (db.trees (tree_of table)))) }
     ensures cause { HasCleanDisk (state S.Store connection.new)
@@ -239,7 +239,7 @@ pub(crate) fn test_all_rowids<S: Alter>(
     connection: &mut Connection<S>,
     made: TablesPresent,
 ) -> Result<(), Error>
-    requires ready { IsReady S.Store connection.old (λ db. db.schema ≡ schema_of made) }
+    requires ready { IsReady S.Store connection.old (λ db. IsSchemaOf made db.schema) }
     ensures numbered { OnOk result (Holds S.Store connection.new (IsMadeTo made)) }
     ensures cause { HasCleanDisk (state S.Store connection.new)
         → IsTrue (state S.Store connection.new).is_open
