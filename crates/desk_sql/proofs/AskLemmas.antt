@@ -23,11 +23,11 @@ use Rattle.desk_sql.specs.declared.opening.finding.TablesPresent.{TablesPresent}
 use Rattle.desk_sql.specs.declared.opening.numbers.DeskTable.{DeskTable}
 use Rattle.desk_sql.specs.declared.reading.whole.WholeTable.{WholeTable}
 use Rattle.desk_sql.specs.Queries.{table_read, table_in, key_cells, rows_read}
-use Rattle.desk_sql.specs.Schema.{desk_schema, HasTable, has_table, is_packed}
+use Rattle.desk_sql.specs.Schema.{HasTable, has_table, is_packed}
 use Rattle.desk_sql.specs.Effects.{Holds}
 use Rattle.sqlite.specs.Tree.{Trees}
 use Rattle.desk_sql.specs.Rows.{IsDesk, Lists, tables_of, tables_in, tables_at}
-use Rattle.desk_sql.specs.Statements.{SelectsAll, NeverRefuses, IsSure, IsSureCommand, IsSureGiven, IsSureMeaning, IsRefusal}
+use Rattle.desk_sql.specs.Statements.{SelectsAll, NeverRefuses, IsSure, IsSureFor, IsSureCommand, IsSureGiven, IsSureMeaning, IsRefusal}
 use Rattle.desk_sql.proofs.lemmas.Read.{shown_read, sure_plain}
 
 -- the cause, of two states
@@ -105,9 +105,8 @@ KnownSure g h text params = Holds g h (λ (db : Database). IsSureGiven db.schema
 
 -- over a desk's tables
 pub sure_here : {S : Type 0} (g : Ghosts S) (h : Held S) (text : List ℕ) (params : Row) → Holds g h IsDesk
-    → IsSureGiven desk_schema text params → KnownSure g h text params
-sure_here g h text params ready sure clean live =
-    subst (λ s. IsSureGiven s text params) (sym (ready clean live).schema) sure
+    → IsSureFor text params → KnownSure g h text params
+sure_here g h text params ready sure clean live = sure (state g h).now.schema (ready clean live).schema
 
 -- a text that shows rows, if the schema is the one that there is
 abbrev pub KnownPlain : {S : Type 0} → Ghosts S → Held S → List ℕ → Type 0

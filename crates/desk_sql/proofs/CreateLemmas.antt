@@ -16,10 +16,10 @@ use Rattle.sqlite.specs.Listing.{understood}
 use Rattle.sqlite.proofs.Callers.{IsPlain, command_of, statement_of}
 use Rattle.sqlite_tied.specs.Compute.{everything}
 use Rattle.desk_sql.specs.declared.opening.finding.TablesPresent.{TablesPresent}
-use Rattle.desk_sql.specs.declared.opening.finding.TablesPresent.TheVariants.{Nothing, Operators, Plans, OldVolumes, OldSpans, OldIndex, Volumes, Spans, All}
+use Rattle.desk_sql.specs.declared.opening.finding.TablesPresent.TheVariants.{Nothing, Operators, Plans, OldVolumes, OldSpans, OldIndex, Volumes, Spans, All, Packed}
 use Rattle.desk_sql.specs.declared.opening.numbers.DeskTable.TheVariants as desk
-use Rattle.desk_sql.specs.Schema.{blank_schema, operator_schema, plan_schema, old_volume_schema, old_table_schema, old_schema, volume_schema, table_schema, desk_schema, schema_of, has_table, tree_of, operator_table, plan_table, old_volume_table, old_span_table, old_span_made, old_span_first, volume_table, span_table, span_made, span_first}
-use Rattle.desk_sql.specs.Changing.{Finishes, Completes, MayComplete}
+use Rattle.desk_sql.specs.Schema.{blank_schema, operator_schema, plan_schema, old_volume_schema, old_table_schema, old_schema, volume_schema, table_schema, desk_schema, desk_with, desk_in, beside_of, IsDeskSchema, IsSchemaOf, schema_of, has_table, tree_of, operator_table, plan_table, old_volume_table, old_span_table, old_span_made, old_span_first, volume_table, span_table, span_made, span_first}
+use Rattle.desk_sql.specs.Changing.{left_to_make, Finishes, Completes, MayComplete}
 use Rattle.desk_sql.specs.Rows.{IsDesk, IsMadeTo, AreNumbered, tables_at, tables_of}
 use Rattle.desk_sql.specs.Effects.{Holds, Spares, Remembers}
 use Rattle.desk_sql.proofs.lemmas.Leaving.{remembers_then}
@@ -36,6 +36,7 @@ pub record GrowsTables {S : Type 0} (g : Ghosts S) (made next : TablesPresent) (
   pub begun : IsTrue new.in_transaction
   pub committed : (state g new).committed ≡ (state g old).committed
   pub has : IsMadeTo next (state g new).now
+  pub beside : beside_of (state g new).now.schema ≡ beside_of (state g old).now.schema
   pub sound : IsDatabase (state g new).now
   pub same : tables_at next (state g new).now.trees ≡ tables_at made (state g old).now.trees
 
@@ -79,19 +80,34 @@ creates schema text table known limit old new has h =
 none : AreNumbered []
 none = record { whole = tt; distinct = tt }
 
+-- beside tables of which some are missing there are no others
+pub alone : (made : TablesPresent) (schema : Schema) → left_to_make made ≢ 0 → IsSchemaOf made schema
+    → schema ≡ schema_of made
+alone Nothing schema lacks is = is
+alone Operators schema lacks is = is
+alone Plans schema lacks is = is
+alone OldVolumes schema lacks is = is
+alone OldSpans schema lacks is = is
+alone OldIndex schema lacks is = is
+alone Volumes schema lacks is = is
+alone Spans schema lacks is = is
+alone All schema lacks is = absurd (lacks refl)
+alone Packed schema lacks is = is
+
 -- what a table more makes of what is made so far
 abbrev Grown : TablesPresent → TablesPresent → Table → Type 0
 Grown made next table = (old new : Database) → IsMadeTo made old → IsAdded (schema_of made) table old new
     → IsMadeTo next new × (tables_at next new.trees ≡ tables_at made old.trees)
+    × (beside_of new.schema ≡ beside_of old.schema)
 
 extends_by : (made next : TablesPresent) (text : List ℕ) (table : Table)
-    → MakesTable (schema_of made) text table
+    → left_to_make made ≢ 0 → MakesTable (schema_of made) text table
     → Grown made next table → Extends text made next
-extends_by made next text table known grown = record {
+extends_by made next text table lacks known grown = record {
   plain = known.plain;
   writes = is_writing (understood (schema_of made) text) CreateTable known.is tt known.plain;
   tables = λ limit old new was h. grown old new was
-      (creates (schema_of made) text table known limit old new was.schema h);
+      (creates (schema_of made) text table known limit old new (alone made old.schema lacks was.schema) h);
 }
 
 operators_grown : Grown Nothing Operators operator_table
@@ -111,6 +127,7 @@ operators_grown old new was added = (
         ] there;
   },
   rw added.empty,
+  ap beside_of added.schema_is ∙ sym (ap beside_of was.schema),
 )
 
 plans_grown : Grown Operators Plans plan_table
@@ -130,6 +147,7 @@ plans_grown old new was added = (
         ] there;
   },
   rw (added.kept.0, added.empty),
+  ap beside_of added.schema_is ∙ sym (ap beside_of was.schema),
 )
 
 old_volumes_grown : Grown Plans OldVolumes old_volume_table
@@ -149,6 +167,7 @@ old_volumes_grown old new was added = (
         ] there;
   },
   rw (added.kept.0, added.kept.1.0, added.empty),
+  ap beside_of added.schema_is ∙ sym (ap beside_of was.schema),
 )
 
 old_spans_grown : Grown OldVolumes OldSpans old_span_table
@@ -168,6 +187,7 @@ old_spans_grown old new was added = (
         ] there;
   },
   rw (added.kept.0, added.kept.1.0, added.kept.1.1.0, added.empty),
+  ap beside_of added.schema_is ∙ sym (ap beside_of was.schema),
 )
 
 volumes_grown : Grown OldIndex Volumes volume_table
@@ -187,6 +207,7 @@ volumes_grown old new was added = (
         ] there;
   },
   rw (added.kept.0, added.kept.1.0, added.kept.1.1.0, added.kept.1.1.1.0, added.empty),
+  ap beside_of added.schema_is ∙ sym (ap beside_of was.schema),
 )
 
 spans_grown : Grown Volumes Spans span_table
@@ -213,6 +234,7 @@ spans_grown old new was added = (
     added.kept.1.1.1.1.0,
     added.empty,
   ),
+  ap beside_of added.schema_is ∙ sym (ap beside_of was.schema),
 )
 
 pub operator_makes : MakesTable blank_schema operator_text operator_table
@@ -226,7 +248,7 @@ operator_makes = record {
 }
 
 pub operator_extends : Extends operator_text Nothing Operators
-operator_extends = extends_by Nothing Operators operator_text operator_table operator_makes operators_grown
+operator_extends = extends_by Nothing Operators operator_text operator_table (λ none. cc) operator_makes operators_grown
 
 pub plan_makes : MakesTable operator_schema plan_text plan_table
 unfolding understood everything
@@ -239,7 +261,7 @@ plan_makes = record {
 }
 
 pub plan_extends : Extends plan_text Operators Plans
-plan_extends = extends_by Operators Plans plan_text plan_table plan_makes plans_grown
+plan_extends = extends_by Operators Plans plan_text plan_table (λ none. cc) plan_makes plans_grown
 
 pub old_volume_makes : MakesTable plan_schema old_volume_text old_volume_table
 unfolding understood everything
@@ -253,7 +275,7 @@ old_volume_makes = record {
 
 pub old_volume_extends : Extends old_volume_text Plans OldVolumes
 old_volume_extends =
-    extends_by Plans OldVolumes old_volume_text old_volume_table old_volume_makes old_volumes_grown
+    extends_by Plans OldVolumes old_volume_text old_volume_table (λ none. cc) old_volume_makes old_volumes_grown
 
 pub old_span_makes : MakesTable old_volume_schema old_span_text old_span_table
 unfolding understood everything
@@ -266,7 +288,7 @@ old_span_makes = record {
 }
 
 pub old_span_extends : Extends old_span_text OldVolumes OldSpans
-old_span_extends = extends_by OldVolumes OldSpans old_span_text old_span_table old_span_makes old_spans_grown
+old_span_extends = extends_by OldVolumes OldSpans old_span_text old_span_table (λ none. cc) old_span_makes old_spans_grown
 
 pub volume_makes : MakesTable old_schema volume_text volume_table
 unfolding understood everything
@@ -279,7 +301,7 @@ volume_makes = record {
 }
 
 pub volume_extends : Extends volume_text OldIndex Volumes
-volume_extends = extends_by OldIndex Volumes volume_text volume_table volume_makes volumes_grown
+volume_extends = extends_by OldIndex Volumes volume_text volume_table (λ none. cc) volume_makes volumes_grown
 
 pub span_makes : MakesTable volume_schema span_text span_table
 unfolding understood everything
@@ -292,7 +314,7 @@ span_makes = record {
 }
 
 pub span_extends : Extends span_text Volumes Spans
-span_extends = extends_by Volumes Spans span_text span_table span_makes spans_grown
+span_extends = extends_by Volumes Spans span_text span_table (λ none. cc) span_makes spans_grown
 
 -- ---- the indexes
 
@@ -342,6 +364,7 @@ old_first_makes = record {
 old_first_grown : (old new : Database) → IsMadeTo OldSpans old → new.schema ≡ old_schema
     → KeepsRows old_table_schema.tables old.trees new.trees
     → IsMadeTo OldIndex new × (tables_at OldIndex new.trees ≡ tables_at OldSpans old.trees)
+    × (beside_of new.schema ≡ beside_of old.schema)
 old_first_grown old new was schema kept = (
   record {
     schema = schema;
@@ -358,6 +381,7 @@ old_first_grown old new was schema kept = (
         ] there;
   },
   rw (kept.0, kept.1.0, kept.1.1.0, kept.1.1.1.0),
+  ap beside_of schema ∙ sym (ap beside_of was.schema),
 )
 
 pub old_first_extends : Extends old_leaf_index_text OldSpans OldIndex
@@ -385,9 +409,10 @@ first_makes = record {
 first_grown : (old new : Database) → IsMadeTo Spans old → new.schema ≡ desk_schema
     → KeepsRows table_schema.tables old.trees new.trees
     → IsMadeTo All new × (tables_at All new.trees ≡ tables_at Spans old.trees)
+    × (beside_of new.schema ≡ beside_of old.schema)
 first_grown old new was schema kept = (
   record {
-    schema = schema;
+    schema = subst IsDeskSchema (sym schema) (record { is = refl; apart = refl });
     rows = λ table there. elim table as (λ t. has_table All t ≡ true
         → AreNumbered (new.trees (tree_of t))) [
           | desk.Operator ↦ λ there. subst AreNumbered (sym kept.0) (was.rows desk.Operator refl)
@@ -401,6 +426,7 @@ first_grown old new was schema kept = (
         ] there;
   },
   rw (kept.0, kept.1.0, kept.1.1.0, kept.1.1.1.0, kept.1.1.1.1.0, kept.1.1.1.1.1.0),
+  ap beside_of schema ∙ sym (ap beside_of was.schema),
 )
 
 pub first_extends : Extends leaf_index_text Spans All
@@ -417,13 +443,14 @@ first_extends = record {
 -- ---- one step, and several
 
 pub grows : {S : Type 0} (g : Ghosts S) (made next : TablesPresent) (old new : Held S) (text : List ℕ)
-    → Extends text made next → Holds g old (IsMadeTo made) → HasCleanDisk (state g old)
+    → left_to_make made ≢ 0 → Extends text made next → Holds g old (IsMadeTo made) → HasCleanDisk (state g old)
     → Shows (state g old) (state g new) (state g new).now (state g old).committed true → (count : ℕ)
     → Executes text [] (state g old) (state g new) (Ok count) → GrowsTables g made next old new
-grows g made next old new text known holds clean shows count h =
+grows g made next old new text lacks known holds clean shows count h =
     let was = holds clean shows.was_open in
+    let schema = alone made (state g old).now.schema lacks was.schema in
     let done = known.tables (state g old).step_limit (state g old).now (state g new).now was
-    (ran text [] (state g old) (state g new) (schema_of made) was.schema known.plain known.writes count h)
+    (ran text [] (state g old) (state g new) (schema_of made) schema known.plain known.writes count h)
     in
     record {
       was_open = shows.was_open;
@@ -431,7 +458,8 @@ grows g made next old new text known holds clean shows count h =
       begun = shows.mode;
       committed = shows.committed_is;
       has = done.0;
-      sound = ran_sound text [] (state g old) (state g new) (schema_of made) was.schema known.plain
+      beside = done.2;
+      sound = ran_sound text [] (state g old) (state g new) (schema_of made) schema known.plain
           known.writes count h;
       same = done.1;
     }
@@ -456,6 +484,7 @@ grown_more g made at next old mid new so_far turn step = record {
         begun = last.begun;
         committed = last.committed ∙ first.committed;
         has = last.has;
+        beside = last.beside ∙ first.beside;
         sound = last.sound;
         same = last.same ∙ first.same;
       };
@@ -485,6 +514,7 @@ finished g made at old now missing end so_far clean =
       begun = all.begun;
       committed = all.committed;
       desk = is_desk (state g now).now all.has;
+      beside = all.beside;
       sound = all.sound;
       same = all.same;
     }
@@ -502,6 +532,7 @@ completed g made old begun mid new begins made_all shown =
       is_open = shown.is_open;
       settled = shown.now_is ∙ sym shown.committed_is;
       desk = subst IsDesk (sym shown.now_is) done.desk;
+      beside = ap (λ (db : Database). beside_of db.schema) shown.now_is ∙ done.beside;
       same = ap (λ (db : Database). tables_of db.trees) shown.now_is ∙ done.same;
     }
 
@@ -518,12 +549,12 @@ may_complete {S = S} g made old begun mid new is made_all spared last clean db l
           subst (λ h. Finishes g made h mid) is (made_all early) in
           inr (record {
             was_open = done.was_open;
-            desk = subst (λ trees. IsDesk (record { schema = desk_schema; trees = trees })) (sym now)
+            desk = subst (λ trees. IsDesk (record { schema = desk_in (state g old).now.schema; trees = trees })) (sym now)
                 (subst (λ schema. IsDesk (record { schema = schema; trees = (state g mid).now.trees }))
-                done.desk.schema done.desk);
-            sound = subst (λ trees. IsDatabase (record { schema = desk_schema; trees = trees })) (sym now)
+                (done.desk.schema.is ∙ ap desk_with done.beside) done.desk);
+            sound = subst (λ trees. IsDatabase (record { schema = desk_in (state g old).now.schema; trees = trees })) (sym now)
                 (subst (λ schema. IsDatabase (record { schema = schema; trees = (state g mid).now.trees }))
-                done.desk.schema done.sound);
+                (done.desk.schema.is ∙ ap desk_with done.beside) done.sound);
             same = ap tables_of now ∙ done.same;
           }))
     ]

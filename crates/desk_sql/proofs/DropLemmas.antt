@@ -21,7 +21,7 @@ use Rattle.sqlite.proofs.Callers.{IsPlain, command_of, statement_of}
 use Rattle.sqlite_tied.specs.Compute.{everything}
 use Rattle.desk_sql.specs.declared.opening.finding.TablesPresent.TheVariants.{OldSpans, Packed}
 use Rattle.desk_sql.specs.declared.opening.numbers.DeskTable.TheVariants as desk
-use Rattle.desk_sql.specs.Schema.{packed_schema, old_table_schema, packed_volume_made, packed_span_made, has_table, tree_of}
+use Rattle.desk_sql.specs.Schema.{beside_of, packed_schema, old_table_schema, packed_volume_made, packed_span_made, has_table, tree_of}
 use Rattle.desk_sql.specs.Rows.{IsMadeTo, AreNumbered}
 use Rattle.desk_sql.specs.Effects.{Holds, Makes}
 use Rattle.desk_sql.specs.Statements.{MayWrite, enforced}
@@ -221,6 +221,7 @@ unpacked g a b c d packed clean one two three =
       is_open = three.is_open;
       begun = three.begun;
       committed = three.committed ∙ two.committed ∙ one.committed;
+      beside = ap beside_of three.schema ∙ sym (ap beside_of was.schema);
       has = record {
         schema = three.schema;
         rows = λ table there. elim table as (λ t. has_table OldSpans t ≡ true
@@ -248,6 +249,7 @@ remade g old mid new less more = record {
   begun = more.begun;
   committed = more.committed ∙ less.committed;
   desk = more.desk;
+  beside = more.beside ∙ less.beside;
   sound = more.sound;
   changed = more.same ∙ less.same;
 }

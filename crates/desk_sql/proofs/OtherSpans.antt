@@ -9,9 +9,8 @@ use Rattle.sqlite_tied.specs.Compute.{everything}
 use Rattle.sqlite.specs.Listing.{understood}
 use Rattle.desk_sql.specs.Rows.{differs, is_at_most, is_at_least, is_below, is_above, columns_from_first, columns, is_others_from}
 use Rattle.desk_sql.specs.declared.reading.rivals.SpanFilter.{SpanFilter}
-use Rattle.desk_sql.specs.Schema.{desk_schema}
 use Rattle.desk_sql.specs.Queries.{others_params}
-use Rattle.desk_sql.specs.Statements.{IsSureGiven, Selects}
+use Rattle.desk_sql.specs.Statements.{IsSureFor, Selects}
 use Rattle.desk_sql.proofs.lemmas.QueryTexts.{rival_spans_is, rival_spans_query}
 use Rattle.desk_sql.proofs.lemmas.Read.{either_null, le_number, ge_number, lt_number, gt_number}
 use Rattle.desk_sql.proofs.StatementLemmas.{and_last, both_hold, one_plan, selects}
@@ -35,11 +34,11 @@ others_test operator reach low s =
     (is_at_least (column s 10) (pos reach.priority)) (differs (column s 1) (Text operator)))
 
 other_spans_sure : (operator : List ℕ) (reach : SpanFilter) (low : ℤ)
-    → IsSureGiven desk_schema rival_spans_text (others_params operator reach low)
+    → IsSureFor rival_spans_text (others_params operator reach low)
 unfolding understood everything
 other_spans_sure operator reach low =
-    sure_given rival_spans_text rival_spans_query _ _ rival_spans_is refl (omega arith)
-    (λ trees misfit. true≢false misfit)
+    sure_given rival_spans_text rival_spans_query _ _ rival_spans_is (λ beside. refl) (λ beside. omega arith)
+    (λ beside trees misfit. true≢false misfit)
     (λ db h. elim h [
       | inl none ↦ absurd none
       | inr fold ↦ absurd fold.4

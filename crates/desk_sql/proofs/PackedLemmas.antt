@@ -17,12 +17,12 @@ volume_rows_are : IsWhole PackedVolume volume_rows_text (volume_rows_in 8)
     (codes "operator" ∷ codes "id" ∷ codes "place" ∷ codes "lower" ∷ codes "upper" ∷ codes "start"
     ∷ codes "stop" ∷ codes "asked" ∷ codes "canon" ∷ [])
 unfolding understood everything
-volume_rows_are others indexes = record { is = refl; plain = (refl, refl); unlisted = refl }
+volume_rows_are others indexes views = record { is = refl; plain = (refl, refl); unlisted = refl }
 
 volume_rows_sure : IsSureWith PackedVolume volume_rows_text
 unfolding understood everything
-volume_rows_sure others indexes =
-    sure_scan (volume_rows_are others indexes) refl (omega arith) (λ trees misfit. true≢false misfit)
+volume_rows_sure others indexes views =
+    sure_scan (volume_rows_are others indexes views) refl (omega arith) (λ trees misfit. true≢false misfit)
 
 pub volume_rows_selected :
     SelectsAll PackedVolume volume_rows_text (0 ∷ 1 ∷ 2 ∷ []) (λ db. map (columns 9) (db 8))
@@ -36,12 +36,12 @@ spans_are : IsWhole PackedSpan all_spans_text (spans_in 10)
     (codes "operator" ∷ codes "id" ∷ codes "place" ∷ codes "first" ∷ codes "last" ∷ codes "lower"
     ∷ codes "upper" ∷ codes "start" ∷ codes "stop" ∷ codes "priority" ∷ [])
 unfolding understood everything
-spans_are others indexes = record { is = refl; plain = (refl, refl); unlisted = refl }
+spans_are others indexes views = record { is = refl; plain = (refl, refl); unlisted = refl }
 
 spans_sure : IsSureWith PackedSpan all_spans_text
 unfolding understood everything
-spans_sure others indexes =
-    sure_scan (spans_are others indexes) refl (omega arith) (λ trees misfit. true≢false misfit)
+spans_sure others indexes views =
+    sure_scan (spans_are others indexes views) refl (omega arith) (λ trees misfit. true≢false misfit)
 
 pub spans_selected :
     SelectsAll PackedSpan all_spans_text (0 ∷ 1 ∷ 2 ∷ 3 ∷ []) (λ db. (packed_tables_of db).spans)
@@ -53,24 +53,24 @@ spans_selected =
 
 volume_rowids_are : IsWhole PackedVolume volume_rowids_text (rowids_query 8) (codes "rowid" ∷ [])
 unfolding understood everything
-volume_rowids_are others indexes = record { is = refl; plain = (refl, refl); unlisted = refl }
+volume_rowids_are others indexes views = record { is = refl; plain = (refl, refl); unlisted = refl }
 
 volume_rowids_sure : IsSureWith PackedVolume volume_rowids_text
 unfolding understood everything
-volume_rowids_sure others indexes =
-    sure_scan (volume_rowids_are others indexes) refl (omega arith) (λ trees misfit. true≢false misfit)
+volume_rowids_sure others indexes views =
+    sure_scan (volume_rowids_are others indexes views) refl (omega arith) (λ trees misfit. true≢false misfit)
 
 pub volume_rowids_selected : SelectsAll PackedVolume volume_rowids_text (0 ∷ []) (λ db. rowids (db 8))
 volume_rowids_selected = rowids_selected _ _ 8 volume_rowids_are volume_rowids_sure (λ db. refl)
 
 span_rowids_are : IsWhole PackedSpan span_rowids_text (rowids_query 10) (codes "rowid" ∷ [])
 unfolding understood everything
-span_rowids_are others indexes = record { is = refl; plain = (refl, refl); unlisted = refl }
+span_rowids_are others indexes views = record { is = refl; plain = (refl, refl); unlisted = refl }
 
 span_rowids_sure : IsSureWith PackedSpan span_rowids_text
 unfolding understood everything
-span_rowids_sure others indexes =
-    sure_scan (span_rowids_are others indexes) refl (omega arith) (λ trees misfit. true≢false misfit)
+span_rowids_sure others indexes views =
+    sure_scan (span_rowids_are others indexes views) refl (omega arith) (λ trees misfit. true≢false misfit)
 
 pub span_rowids_selected : SelectsAll PackedSpan span_rowids_text (0 ∷ []) (λ db. rowids (db 10))
 span_rowids_selected = rowids_selected _ _ 10 span_rowids_are span_rowids_sure (λ db. refl)

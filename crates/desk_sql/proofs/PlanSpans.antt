@@ -12,9 +12,8 @@ use Rattle.sqlite_tied.specs.Compute.{everything}
 use Rattle.sqlite.specs.Listing.{understood}
 use Rattle.desk_sql.specs.Rows.{is_at_most, is_at_least, is_below, is_above, is_of, columns_from_first, columns, is_plan_span}
 use Rattle.desk_sql.specs.declared.reading.rivals.SpanFilter.{SpanFilter}
-use Rattle.desk_sql.specs.Schema.{desk_schema}
 use Rattle.desk_sql.specs.Queries.{plan_params}
-use Rattle.desk_sql.specs.Statements.{IsSureGiven, Selects}
+use Rattle.desk_sql.specs.Statements.{IsSureFor, Selects}
 use Rattle.desk_sql.proofs.lemmas.QueryTexts.{IsQuery, query_of}
 use Rattle.desk_sql.proofs.lemmas.Read.{equals_text, le_number, ge_number, lt_number, gt_number}
 use Rattle.desk_sql.proofs.StatementLemmas.{and_last, both_hold, one_plan, selects}
@@ -38,7 +37,7 @@ pub plan_spans_is : IsQuery plan_spans_text plan_spans_query
     (codes "first" ∷ codes "last" ∷ codes "lower" ∷ codes "upper" ∷ codes "start" ∷ codes "stop"
     ∷ codes "priority" ∷ [])
 unfolding understood everything
-plan_spans_is = record { is = refl; plain = (refl, refl); unlisted = refl }
+plan_spans_is beside = record { is = refl; plain = (refl, refl); unlisted = refl }
 
 grouped : (a b c d e f g h : Bool) → (a && (b && (c && (d && (e && (f && (g && h)))))))
     ≡ ((a && (b && (c && (d && (e && (f && g)))))) && h)
@@ -62,11 +61,11 @@ plan_test operator id reach s =
     (is_at_least (column s 10) (pos reach.priority)) (is_of operator id (columns 10 s))
 
 pub plan_spans_sure : (operator id : List ℕ) (reach : SpanFilter)
-    → IsSureGiven desk_schema plan_spans_text (plan_params operator id reach)
+    → IsSureFor plan_spans_text (plan_params operator id reach)
 unfolding understood everything
 plan_spans_sure operator id reach =
-    sure_given plan_spans_text plan_spans_query _ _ plan_spans_is refl (omega arith)
-    (λ trees misfit. true≢false misfit)
+    sure_given plan_spans_text plan_spans_query _ _ plan_spans_is (λ beside. refl) (λ beside. omega arith)
+    (λ beside trees misfit. true≢false misfit)
     (λ db h. elim h [
       | inl none ↦ absurd none
       | inr fold ↦ absurd fold.4

@@ -1,5 +1,6 @@
 -- What is made so far has each of its tables.
-use Rattle.std.proofs.Common.{◌≡◌, List, [], ◌∷◌, refl, ap, ◌∙◌, sym, true, true≢false}
+use Rattle.std.proofs.Common.{◌≡◌, List, [], ◌∷◌, ◌++◌, drop, refl, ap, ◌∙◌, sym, true, true≢false}
+use Rattle.sqlite.specs.Schema.{Schema}
 use Rattle.sqlite.specs.Table.{Table}
 use Rattle.sqlite.specs.Effect.{Database}
 use Rattle.sqlite_tied.specs.Compute.{everything}
@@ -7,18 +8,41 @@ use Rattle.desk_sql.specs.declared.opening.finding.TablesPresent.{TablesPresent}
 use Rattle.desk_sql.specs.declared.opening.finding.TablesPresent.TheVariants.{Nothing, Operators, Plans, OldVolumes, OldSpans, OldIndex, Volumes, Spans, All, Packed}
 use Rattle.desk_sql.specs.declared.opening.numbers.DeskTable.{DeskTable}
 use Rattle.desk_sql.specs.declared.opening.numbers.DeskTable.TheVariants.{Operator, Plan, OldVolume, OldSpan, Volume, Span, PackedVolume, PackedSpan}
-use Rattle.desk_sql.specs.Schema.{schema_of, schema_to, has_table, HasTable, plan_made, old_volume_made, old_span_made, volume_made, span_made, packed_volume_made, packed_span_made}
+use Rattle.desk_sql.specs.Schema.{schema_of, schema_to, tables_to, desk_schema, IsSchemaOf, IsDeskSchema, has_table, HasTable, plan_made, old_volume_made, old_span_made, volume_made, span_made, packed_volume_made, packed_span_made}
 
 as_made : (table : DeskTable) (others : List Table) (made : TablesPresent) (db : Database)
-    → schema_of made ≡ schema_to table others (schema_of made).indexes → db.schema ≡ schema_of made
+    → schema_of made ≡ schema_to table others (schema_of made).indexes (schema_of made).views
+    → db.schema ≡ schema_of made
     → HasTable table db
 as_made table others made db same is = record {
   others = others;
-  schema = is ∙ same ∙ ap (λ s. schema_to table others s.indexes) (sym is);
+  schema = is ∙ same ∙ ap (λ (s : Schema). schema_to table others s.indexes s.views) (sym is);
+}
+
+-- others come behind those that there are
+further : (table : DeskTable) (own others : List Table)
+    → tables_to table own ++ others ≡ tables_to table (own ++ others)
+further Operator own others = refl
+further Plan own others = refl
+further OldVolume own others = refl
+further OldSpan own others = refl
+further Volume own others = refl
+further Span own others = refl
+further PackedVolume own others = refl
+further PackedSpan own others = refl
+
+-- so has a desk's schema with others beside it
+as_desk : (table : DeskTable) (own : List Table) (db : Database) → IsDeskSchema db.schema
+    → desk_schema.tables ≡ tables_to table own → HasTable table db
+as_desk table own db desk same = record {
+  others = own ++ drop 6 db.schema.tables;
+  schema = ap (λ ts. record { tables = ts; indexes = db.schema.indexes; views = db.schema.views })
+      (ap (λ (s : Schema). s.tables) desk.is ∙ ap (λ ts. ts ++ drop 6 db.schema.tables) same
+      ∙ further table own (drop 6 db.schema.tables));
 }
 
 pub has_made : (made : TablesPresent) (table : DeskTable) (db : Database) → has_table made table ≡ true
-    → db.schema ≡ schema_of made → HasTable table db
+    → IsSchemaOf made db.schema → HasTable table db
 unfolding everything
 has_made Nothing table db there is = absurd (true≢false (sym there))
 has_made Operators Operator db there is = as_made Operator [] Operators db refl is
@@ -88,15 +112,14 @@ has_made Spans Span db there is = as_made Span [] Spans db refl is
 has_made Spans PackedVolume db there is = absurd (true≢false (sym there))
 has_made Spans PackedSpan db there is = absurd (true≢false (sym there))
 has_made All Operator db there is =
-    as_made Operator (plan_made ∷ old_volume_made ∷ old_span_made ∷ volume_made ∷ span_made ∷ [])
-    All db refl is
+    as_desk Operator (plan_made ∷ old_volume_made ∷ old_span_made ∷ volume_made ∷ span_made ∷ []) db is refl
 has_made All Plan db there is =
-    as_made Plan (old_volume_made ∷ old_span_made ∷ volume_made ∷ span_made ∷ []) All db refl is
+    as_desk Plan (old_volume_made ∷ old_span_made ∷ volume_made ∷ span_made ∷ []) db is refl
 has_made All OldVolume db there is =
-    as_made OldVolume (old_span_made ∷ volume_made ∷ span_made ∷ []) All db refl is
-has_made All OldSpan db there is = as_made OldSpan (volume_made ∷ span_made ∷ []) All db refl is
-has_made All Volume db there is = as_made Volume (span_made ∷ []) All db refl is
-has_made All Span db there is = as_made Span [] All db refl is
+    as_desk OldVolume (old_span_made ∷ volume_made ∷ span_made ∷ []) db is refl
+has_made All OldSpan db there is = as_desk OldSpan (volume_made ∷ span_made ∷ []) db is refl
+has_made All Volume db there is = as_desk Volume (span_made ∷ []) db is refl
+has_made All Span db there is = as_desk Span [] db is refl
 has_made All PackedVolume db there is = absurd (true≢false (sym there))
 has_made All PackedSpan db there is = absurd (true≢false (sym there))
 has_made Packed Operator db there is =

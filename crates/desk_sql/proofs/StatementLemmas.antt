@@ -22,14 +22,15 @@ use Rattle.desk_sql.specs.Queries.{params_of, order_of, rows_of, rival_params}
 use Rattle.sqlite.specs.Schema.{Schema}
 use Rattle.sqlite.specs.Table.{Table}
 use Rattle.sqlite_schema.specs.declared.schema.Index.{Index}
+use Rattle.sqlite_schema.specs.declared.schema.View.{View}
 use Rattle.desk_sql.specs.declared.opening.numbers.DeskTable.{DeskTable}
 use Rattle.desk_sql.specs.declared.opening.numbers.DeskTable.TheVariants.{Operator, Plan, Volume, Span}
-use Rattle.desk_sql.specs.Schema.{desk_schema, schema_to, HasTable}
+use Rattle.desk_sql.specs.Schema.{beside_of, schema_to, HasTable}
 use Rattle.desk_sql.specs.Effects.{Holds}
 use Rattle.sqlite.specs.Effect.{Database}
 use Rattle.sqlite.specs.Listing.{understood}
 use Rattle.sqlite.specs.Tree.{Trees}
-use Rattle.desk_sql.specs.Statements.{IsSure, IsSureGiven, MayRead, Selects, SelectsAll}
+use Rattle.desk_sql.specs.Statements.{IsSure, IsSureFor, MayRead, Selects, SelectsAll}
 use Rattle.desk_sql.proofs.Sure.{plan_of_sure, volumes_of_sure, own_plans_sure, rival_spans_sure}
 use Rattle.desk_sql.proofs.SureTexts.{all_operators_sure, all_plans_sure, volume_rows_sure, all_spans_sure}
 use Rattle.desk_sql.proofs.lemmas.Texts.{all_operators_text, plan_of_text, all_plans_text, volumes_of_text, volume_rows_text, all_spans_text, own_plans_text, rival_spans_text}
@@ -119,7 +120,7 @@ module _ {schema : Schema} (text : List ℕ) (from : Join) (terms : List Term) (
 
 module _ (text : List ℕ) (from : Join) (terms : List Term) (project : List Term) (order : List (Term × Key))
     (names : List (List ℕ)) (known : IsQuery text (query_of from terms project order) names)
-    (params : Row) (sure : IsSureGiven desk_schema text params) (cells : List ℕ)
+    (params : Row) (sure : IsSureFor text params) (cells : List ℕ)
     (wanted : Tables → List Row) where
   pub selects : ((e : Env) → eval_all (map (λ k. k.0) order) e ≡ map (column (eval_all project e)) cells)
       → ((x y : Row) → key_cmp 0 (map (λ k. k.1) order) (map (column x) cells) (map (column y) cells)
@@ -129,15 +130,18 @@ module _ (text : List ℕ) (from : Join) (terms : List Term) (project : List Ter
   selects keys compares are = record {
     sure = sure;
     rows = λ db rows desk h.
-        listed text from terms project order names known params cells db rows (wanted (tables_of db.trees))
-        (may_answer text (query_of from terms project order) names known params db rows h) keys compares
+        let here = known (beside_of db.schema) in
+        listed text from terms project order names here params cells db rows (wanted (tables_of db.trees))
+        (may_answer text (query_of from terms project order) names here params db rows
+        (subst (λ s. MayRead (understood s text) db params rows) desk.schema.is h)) keys compares
         (are db.trees);
   }
 
 module _ (text : List ℕ) (from : Join) (terms : List Term) (project : List Term) (order : List (Term × Key))
     (names : List (List ℕ)) (table : DeskTable)
     (known : IsWhole table text (query_of from terms project order) names)
-    (sure : (others : List Table) (indexes : List Index) → IsSure (schema_to table others indexes) text)
+    (sure : (others : List Table) (indexes : List Index) (views : List View)
+    → IsSure (schema_to table others indexes views) text)
     (cells : List ℕ) (wanted : Trees → List Row) where
   pub selects_all :
       ((e : Env) → eval_all (map (λ k. k.0) order) e ≡ map (column (eval_all project e)) cells)
@@ -146,9 +150,9 @@ module _ (text : List ℕ) (from : Join) (terms : List Term) (project : List Ter
       → ((db : Trees) → map (eval_all project) (matches (overlay db []) terms from ([] ∷ [])) ≡ wanted db)
       → SelectsAll table text cells wanted
   selects_all keys compares are = record {
-    sure = λ db has. subst (λ s. IsSure s text) (sym has.schema) (sure has.others db.schema.indexes);
+    sure = λ db has. subst (λ s. IsSure s text) (sym has.schema) (sure has.others db.schema.indexes db.schema.views);
     rows = λ db rows has h.
-        let here = known has.others db.schema.indexes in
+        let here = known has.others db.schema.indexes db.schema.views in
         listed text from terms project order names here [] cells db rows (wanted db.trees)
         (may_answer text (query_of from terms project order) names here [] db rows
         (subst (λ s. MayRead (understood s text) db [] rows) has.schema h))

@@ -1,5 +1,5 @@
 -- Each CREATE of a desk's tables and indexes is refused only by memory and the disk.
-use Rattle.std.proofs.Common.{◌≡◌, ◌≤◌, ◌<◌, ◌^◌, ◌*◌, ◌+◌, ◌==◌, ◌⊎◌, inl, inr, ℕ, true, false, List, [], ◌∷◌, length, map, None, Some, Option, Ok, Err, Result, IsTrue, refl, sym, ap, subst, ◌∙◌, true≢false, arith}
+use Rattle.std.proofs.Common.{◌≡◌, ◌≢◌, ◌≤◌, ◌<◌, ◌^◌, ◌*◌, ◌+◌, ◌==◌, ◌⊎◌, inl, inr, ℕ, true, false, List, [], ◌∷◌, length, map, None, Some, Option, Ok, Err, Result, IsTrue, refl, sym, ap, subst, ◌∙◌, true≢false, arith}
 use Rattle.std.specs.Prelude.{codes, IsAscii, IsUtf8, nat_le, slice_get, zero, suc}
 use Rattle.std.specs.List.{AllByRecursion, list_all}
 use Rattle.std.proofs.lemmas.Bool.{and_parts, leb-true}
@@ -47,13 +47,13 @@ use Rattle.desk_sql.specs.declared.opening.numbers.DeskTable.TheVariants as desk
 use Rattle.desk_sql.specs.Schema.{schema_of, blank_schema, operator_schema, plan_schema, old_volume_schema, old_table_schema, old_schema, volume_schema, table_schema, operator_table, plan_table, old_volume_table, old_span_table, old_span_made, old_span_first, volume_table, span_table, span_made, span_first}
 use Rattle.desk_sql.specs.Rows.{columns, tables_at}
 use Rattle.desk_sql.specs.Statements.{Extends, enforced, IsRefusal}
-use Rattle.desk_sql.specs.Changing.{IsWholeIn, MayStop, IsSmall, AreSmall, HasSmallSpans, IsStep}
+use Rattle.desk_sql.specs.Changing.{left_to_make, IsWholeIn, MayStop, IsSmall, AreSmall, HasSmallSpans, IsStep}
 use Rattle.desk_sql.proofs.lemmas.Texts.{operator_text, plan_text, old_volume_text, old_span_text, old_leaf_index_text, volume_text, span_text, leaf_index_text}
 use Rattle.desk_sql.proofs.lemmas.Write.{same_value}
 use Rattle.desk_sql.proofs.lemmas.Stop.{caused_inside, names_in, tail_of, whole_in}
 use Rattle.desk_sql.proofs.lemmas.Rowid.{refusal_on}
 use Rattle.desk_sql.proofs.lemmas.Size.{blob, storable, text, whole}
-use Rattle.desk_sql.proofs.CreateLemmas.{HasGrown, MakesTable, MakesIndex, operator_makes, plan_makes, old_volume_makes, old_span_makes, old_first_makes, volume_makes, span_makes, first_makes, operator_extends, plan_extends, old_volume_extends, old_span_extends, old_first_extends, volume_extends, span_extends, first_extends}
+use Rattle.desk_sql.proofs.CreateLemmas.{alone, HasGrown, MakesTable, MakesIndex, operator_makes, plan_makes, old_volume_makes, old_span_makes, old_first_makes, volume_makes, span_makes, first_makes, operator_extends, plan_extends, old_volume_extends, old_span_extends, old_first_extends, volume_extends, span_extends, first_extends}
 
 -- what holds of some value that a reading gives holds of that which it gives
 pub only : {A E : Type 0} (r : Result A E) (a : A) (P : A → Type 0) → r ≡ Ok a
@@ -165,15 +165,15 @@ module _ (schema : Schema) (sql : List ℕ) (table : Table) (known : IsFreeTable
         | inr done ↦ absurd (let end = done.2 in cc)
       ]
 
-step_by_table : (made next : TablesPresent) (sql : List ℕ) (table : Table)
+step_by_table : (made next : TablesPresent) (sql : List ℕ) (table : Table) → left_to_make made ≢ 0
     → IsFreeTable (schema_of made) sql table
     → Extends sql made next → IsStep sql made next
-step_by_table made next sql table known extends = record {
+step_by_table made next sql table lacks known extends = record {
   extends = extends;
   means = whole_in sql 0 (understood (schema_of made) sql) CreateTable known.makes.is known.makes.plain tt
       known.given known.all;
   never = λ limit db stop was sound small.
-      table_never (schema_of made) sql table known limit db stop was.schema;
+      table_never (schema_of made) sql table known limit db stop (alone made db.schema lacks was.schema);
 }
 
 operator_free : IsFreeTable blank_schema operator_text operator_table
@@ -202,7 +202,7 @@ operator_free = record {
 }
 
 pub operator_step : IsStep operator_text Nothing Operators
-operator_step = step_by_table Nothing Operators operator_text operator_table operator_free operator_extends
+operator_step = step_by_table Nothing Operators operator_text operator_table (λ none. cc) operator_free operator_extends
 
 plan_free : IsFreeTable operator_schema plan_text plan_table
 unfolding understood everything fits_kind is_free_name begins same_name value_cmp Ieee.is_nan Ieee.lt
@@ -230,7 +230,7 @@ plan_free = record {
 }
 
 pub plan_step : IsStep plan_text Operators Plans
-plan_step = step_by_table Operators Plans plan_text plan_table plan_free plan_extends
+plan_step = step_by_table Operators Plans plan_text plan_table (λ none. cc) plan_free plan_extends
 
 old_volume_free : IsFreeTable plan_schema old_volume_text old_volume_table
 unfolding understood everything fits_kind is_free_name begins same_name value_cmp Ieee.is_nan Ieee.lt
@@ -259,7 +259,7 @@ old_volume_free = record {
 
 pub old_volume_step : IsStep old_volume_text Plans OldVolumes
 old_volume_step =
-    step_by_table Plans OldVolumes old_volume_text old_volume_table old_volume_free old_volume_extends
+    step_by_table Plans OldVolumes old_volume_text old_volume_table (λ none. cc) old_volume_free old_volume_extends
 
 old_span_free : IsFreeTable old_volume_schema old_span_text old_span_table
 unfolding understood everything fits_kind is_free_name begins same_name value_cmp Ieee.is_nan Ieee.lt
@@ -287,7 +287,7 @@ old_span_free = record {
 }
 
 pub old_span_step : IsStep old_span_text OldVolumes OldSpans
-old_span_step = step_by_table OldVolumes OldSpans old_span_text old_span_table old_span_free old_span_extends
+old_span_step = step_by_table OldVolumes OldSpans old_span_text old_span_table (λ none. cc) old_span_free old_span_extends
 
 volume_free : IsFreeTable old_schema volume_text volume_table
 unfolding understood everything fits_kind is_free_name begins same_name value_cmp Ieee.is_nan Ieee.lt
@@ -315,7 +315,7 @@ volume_free = record {
 }
 
 pub volume_step : IsStep volume_text OldIndex Volumes
-volume_step = step_by_table OldIndex Volumes volume_text volume_table volume_free volume_extends
+volume_step = step_by_table OldIndex Volumes volume_text volume_table (λ none. cc) volume_free volume_extends
 
 span_free : IsFreeTable volume_schema span_text span_table
 unfolding understood everything fits_kind is_free_name begins same_name value_cmp Ieee.is_nan Ieee.lt
@@ -343,7 +343,7 @@ span_free = record {
 }
 
 pub span_step : IsStep span_text Volumes Spans
-span_step = step_by_table Volumes Spans span_text span_table span_free span_extends
+span_step = step_by_table Volumes Spans span_text span_table (λ none. cc) span_free span_extends
 
 -- ---- the indexes
 
@@ -580,16 +580,17 @@ first_step = record {
 -- a step that is refused after others is refused for a cause since the start
 pub step_refused : {S : Type 0} (g : Ghosts S) (made at next : TablesPresent) (old mid new : Held S)
     (sql : List ℕ)
-    → IsStep sql at next → HasGrown g made at old mid → HasCleanDisk (state g mid)
+    → left_to_make at ≢ 0 → IsStep sql at next → HasGrown g made at old mid → HasCleanDisk (state g mid)
     → IsTrue (state g mid).is_open → HasSmallSpans (tables_at made (state g old).now.trees) → (e : Error)
     → (IsTrue mid.in_transaction → ExecutesInside 0 sql [] (state g mid) (state g new) (Err e))
     → IsRefusal g old new e
-step_refused g made at next old mid new sql step grown clean live small e h =
+step_refused g made at next old mid new sql lacks step grown clean live small e h =
     let now = grown.grown clean (inr live) in
+    let schema = alone at (state g mid).now.schema lacks now.has.schema in
     let fits = subst HasSmallSpans (sym now.same) small in
     refusal_on g old mid new grown.remembered.faults grown.remembered.limit e
     (caused_inside sql [] (state g mid) (state g new) e live
     (λ stop stops. absurd (step.never (state g mid).step_limit (state g mid).now stop now.has now.sound fits
     (subst (λ s. MayStop sql (understood s sql) [] (state g mid).step_limit (state g mid).now stop)
-    now.has.schema stops)))
-    (subst (λ s. IsWholeIn sql 0 (understood s sql)) (sym now.has.schema) step.means) (h now.begun))
+    schema stops)))
+    (subst (λ s. IsWholeIn sql 0 (understood s sql)) (sym schema) step.means) (h now.begun))

@@ -9,6 +9,7 @@ use Rattle.sqlite_schema.specs.declared.schema.Schema.{Schema}
 use Rattle.sqlite_tied.specs.Compute.{everything}
 use Rattle.sqlite.specs.Listing.{understood}
 use Rattle.sqlite_schema.specs.declared.schema.Index.{Index}
+use Rattle.sqlite_schema.specs.declared.schema.View.{View}
 use Rattle.sqlite.specs.Table.{Table}
 use Rattle.desk_sql.specs.declared.opening.numbers.DeskTable.{DeskTable}
 use Rattle.desk_sql.specs.declared.opening.numbers.DeskTable.TheVariants.{Operator, Plan, OldVolume, OldSpan, Volume, Span}
@@ -46,55 +47,55 @@ sure_scan {schema} {text} {tree} {project} {order} {names} known count whole fit
 
 -- wherever the table is made, whatever others there are
 abbrev pub IsSureWith : DeskTable → List ℕ → Type 0
-IsSureWith table text = (others : List Table) (indexes : List Index)
-    → IsSure (schema_to table others indexes) text
+IsSureWith table text = (others : List Table) (indexes : List Index) (views : List View)
+    → IsSure (schema_to table others indexes views) text
 
 pub operator_rowids_sure : IsSureWith Operator operator_rowids_text
 unfolding understood everything
-operator_rowids_sure others indexes =
-    sure_scan (operator_rowids_is others indexes) refl (omega arith) (λ trees misfit. true≢false misfit)
+operator_rowids_sure others indexes views =
+    sure_scan (operator_rowids_is others indexes views) refl (omega arith) (λ trees misfit. true≢false misfit)
 
 pub plan_rowids_sure : IsSureWith Plan plan_rowids_text
 unfolding understood everything
-plan_rowids_sure others indexes =
-    sure_scan (plan_rowids_is others indexes) refl (omega arith) (λ trees misfit. true≢false misfit)
+plan_rowids_sure others indexes views =
+    sure_scan (plan_rowids_is others indexes views) refl (omega arith) (λ trees misfit. true≢false misfit)
 
 pub volume_rowids_sure : IsSureWith Volume volume_rowids_text
 unfolding understood everything
-volume_rowids_sure others indexes =
-    sure_scan (volume_rowids_is others indexes) refl (omega arith) (λ trees misfit. true≢false misfit)
+volume_rowids_sure others indexes views =
+    sure_scan (volume_rowids_is others indexes views) refl (omega arith) (λ trees misfit. true≢false misfit)
 
 pub span_rowids_sure : IsSureWith Span span_rowids_text
 unfolding understood everything
-span_rowids_sure others indexes =
-    sure_scan (span_rowids_is others indexes) refl (omega arith) (λ trees misfit. true≢false misfit)
+span_rowids_sure others indexes views =
+    sure_scan (span_rowids_is others indexes views) refl (omega arith) (λ trees misfit. true≢false misfit)
 
 pub all_operators_sure : IsSureWith Operator all_operators_text
 unfolding understood everything
-all_operators_sure others indexes =
-    sure_scan (all_operators_is others indexes) refl (omega arith) (λ trees misfit. true≢false misfit)
+all_operators_sure others indexes views =
+    sure_scan (all_operators_is others indexes views) refl (omega arith) (λ trees misfit. true≢false misfit)
 
 pub all_plans_sure : IsSureWith Plan all_plans_text
 unfolding understood everything
-all_plans_sure others indexes =
-    sure_scan (all_plans_is others indexes) refl (omega arith) (λ trees misfit. true≢false misfit)
+all_plans_sure others indexes views =
+    sure_scan (all_plans_is others indexes views) refl (omega arith) (λ trees misfit. true≢false misfit)
 
 pub all_spans_sure : IsSureWith Span all_spans_text
 unfolding understood everything
-all_spans_sure others indexes =
-    sure_scan (all_spans_is others indexes) refl (omega arith) (λ trees misfit. true≢false misfit)
+all_spans_sure others indexes views =
+    sure_scan (all_spans_is others indexes views) refl (omega arith) (λ trees misfit. true≢false misfit)
 
 pub volume_rows_sure : IsSureWith Volume volume_rows_text
 unfolding understood everything
-volume_rows_sure others indexes =
-    sure_scan (volume_rows_is others indexes) refl (omega arith) (λ trees misfit. true≢false misfit)
+volume_rows_sure others indexes views =
+    sure_scan (volume_rows_is others indexes views) refl (omega arith) (λ trees misfit. true≢false misfit)
 
 pub old_volume_rowids_sure : IsSureWith OldVolume old_volume_rowids_text
 unfolding understood everything
-old_volume_rowids_sure others indexes =
-    sure_scan (old_volume_rowids_is others indexes) refl (omega arith) (λ trees misfit. true≢false misfit)
+old_volume_rowids_sure others indexes views =
+    sure_scan (old_volume_rowids_is others indexes views) refl (omega arith) (λ trees misfit. true≢false misfit)
 
 pub old_span_rowids_sure : IsSureWith OldSpan old_span_rowids_text
 unfolding understood everything
-old_span_rowids_sure others indexes =
-    sure_scan (old_span_rowids_is others indexes) refl (omega arith) (λ trees misfit. true≢false misfit)
+old_span_rowids_sure others indexes views =
+    sure_scan (old_span_rowids_is others indexes views) refl (omega arith) (λ trees misfit. true≢false misfit)

@@ -43,6 +43,10 @@ pub record IsSureGiven (schema : Schema) (text : List ℕ) (params : Row) : Type
 abbrev pub IsSure : Schema → List ℕ → Type 0
 IsSure schema text = IsSureGiven schema text []
 
+-- so it is under each desk's schema, whatever stands beside the desk's tables
+abbrev pub IsSureFor : List ℕ → Row → Type 0
+IsSureFor text params = (schema : Schema) → IsDeskSchema schema → IsSureGiven schema text params
+
 -- the error that is reported: `OutOfMemory` instead of `TooBig`, which means too many rows to count
 abbrev pub too_big_as_out_of_memory : Error → Error
 too_big_as_out_of_memory (SqliteFailure code.TooBig) = SqliteFailure code.OutOfMemory
@@ -85,7 +89,7 @@ MayRead (Err e) db params rows = ⊥
 -- a query that, with these parameters, only memory, the disk and a limit on steps refuse, and that returns
 -- just the rows `wanted` of a desk's tables, ordered by the columns `cells`
 pub record Selects (text : List ℕ) (params : Row) (cells : List ℕ) (wanted : Tables → List Row) : Type 0 where
-  pub sure : (schema : Schema) → IsDeskSchema schema → IsSureGiven schema text params
+  pub sure : IsSureFor text params
   pub rows : (db : Database) (shown : List Row) → IsDesk db
       → MayRead (understood db.schema text) db params shown → Lists cells (wanted
       (tables_of db.trees)) shown

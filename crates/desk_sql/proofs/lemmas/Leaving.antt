@@ -1,5 +1,5 @@
 -- What a crash leaves, after a text was prepared and after a transaction.
-use Rattle.std.proofs.Common.{◌≡◌, ◌⊎◌, inl, inr, true, false, List, [], ℕ, ◌≤◌, Result, Ok, Err, IfOk, IfErr, OnOk, IsTrue, refl, sym, subst, ◌∙◌, arith}
+use Rattle.std.proofs.Common.{◌≡◌, ◌⊎◌, inl, inr, true, false, List, [], ℕ, ◌≤◌, Result, Ok, Err, IfOk, IfErr, OnOk, IsTrue, refl, ap, sym, subst, ◌∙◌, arith}
 use Rattle.sqlite.specs.Order.{Row}
 use Rattle.sqlite.specs.Tree.{Trees}
 use Rattle.sqlite.specs.Effect.{Database, IsDatabase}
@@ -11,9 +11,10 @@ use Rattle.sqlite.specs.Given.{IsPlain, HasBegun}
 use Rattle.sqlite.specs.Listing.{understood}
 use Rattle.sqlite.specs.State.{HasCleanDisk, Survives, CommitsShowing, Shown, Shows, FailsToQuery, IsUnchanged, IsRolledBack}
 use Rattle.sqlite.proofs.Callers.{never_commits, unchanged_then}
-use Rattle.desk_sql.specs.Schema.{desk_schema}
+use Rattle.sqlite.specs.Schema.{Schema}
+use Rattle.desk_sql.specs.Schema.{beside_of, desk_with, desk_in}
 use Rattle.desk_sql.specs.Rows.{IsDesk, Tables, tables_of}
-use Rattle.desk_sql.specs.Effects.{StaysShown, Makes, Commits, MayMake, Spares, ShowsAsBefore, OnlyReads, Remembers}
+use Rattle.desk_sql.specs.Effects.{Holds, StaysShown, Makes, Commits, MayMake, Spares, ShowsAsBefore, OnlyReads, Remembers}
 use Rattle.desk_sql.proofs.lemmas.Read.{failed, if_either, unmoved}
 use Rattle.desk_sql.specs.Queries.{HandsAll, IsLeft}
 use Rattle.desk_sql.proofs.AskLemmas.{KnownPlain}
@@ -198,6 +199,13 @@ remembers_itself g h = record {
   spared = λ clean db left. left;
 }
 
+-- what holds of the schema that is shown, if what was called only reads
+pub still_held : {S : Type 0} (g : Ghosts S) (old new : Held S) (Is : Schema → Type 0) → OnlyReads g old new
+    → Holds g old (λ (db : Database). Is db.schema) → Holds g new (λ (db : Database). Is db.schema)
+still_held g old new Is reads holds clean live =
+    let kept = reads.kept clean live in
+    subst (λ (db : Database). Is db.schema) (sym kept.now) (holds (omega (arith, reads.doubt, clean)) kept.was_open)
+
 pub remembers_survived : {S : Type 0} (g : Ghosts S) (old new : Held S)
     → Survives (state g old) (state g new) (λ _. ⊥) → Remembers g old new
 remembers_survived g old new survives = record {
@@ -248,12 +256,12 @@ may_make {S = S} g old begun mid new Changes is made spared last clean db left =
           subst (λ h. Makes g h mid Changes) is (made early) in
           inr (record {
             was_open = done.was_open;
-            desk = subst (λ trees. IsDesk (record { schema = desk_schema; trees = trees })) (sym now)
+            desk = subst (λ trees. IsDesk (record { schema = desk_in (state g old).now.schema; trees = trees })) (sym now)
                 (subst (λ schema. IsDesk (record { schema = schema; trees = (state g mid).now.trees }))
-                done.desk.schema done.desk);
-            sound = subst (λ trees. IsDatabase (record { schema = desk_schema; trees = trees })) (sym now)
+                (done.desk.schema.is ∙ ap desk_with done.beside) done.desk);
+            sound = subst (λ trees. IsDatabase (record { schema = desk_in (state g old).now.schema; trees = trees })) (sym now)
                 (subst (λ schema. IsDatabase (record { schema = schema; trees = (state g mid).now.trees }))
-                done.desk.schema done.sound);
+                (done.desk.schema.is ∙ ap desk_with done.beside) done.sound);
             changed = subst (λ trees. Changes (tables_of (state g old).now.trees) (tables_of trees))
                 (sym now) done.changed;
           }))
@@ -273,6 +281,7 @@ committed g old begun mid new Changes begins made shown =
       is_open = shown.is_open;
       settled = shown.now_is ∙ sym shown.committed_is;
       desk = subst IsDesk (sym shown.now_is) done.desk;
+      beside = ap (λ (db : Database). beside_of db.schema) shown.now_is ∙ done.beside;
       changed = subst (λ (db : Database). Changes (tables_of (state g old).now.trees)
           (tables_of db.trees))
           (sym shown.now_is) done.changed;

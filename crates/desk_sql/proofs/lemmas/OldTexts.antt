@@ -35,7 +35,7 @@ pub all_old_volumes_is : IsWhole OldVolume all_old_volumes_text all_old_volumes_
     (codes "operator" ∷ codes "id" ∷ codes "place" ∷ codes "lower" ∷ codes "upper" ∷ codes "start"
     ∷ codes "stop" ∷ codes "asked" ∷ [])
 unfolding understood everything
-all_old_volumes_is others indexes = record { is = refl; plain = (refl, refl); unlisted = refl }
+all_old_volumes_is others indexes views = record { is = refl; plain = (refl, refl); unlisted = refl }
 
 abbrev pub all_old_spans_query : Query
 all_old_spans_query = query_of (inner 6 end) ([]) (col 1 1 ∷ col 1 2 ∷ col 1 3 ∷ col 1 4 ∷ col 1 5 ∷ col 1 6
@@ -47,7 +47,7 @@ pub all_old_spans_is : IsWhole OldSpan all_old_spans_text all_old_spans_query
     (codes "operator" ∷ codes "id" ∷ codes "place" ∷ codes "first" ∷ codes "last" ∷ codes "lower"
     ∷ codes "upper" ∷ codes "start" ∷ codes "stop" ∷ codes "priority" ∷ [])
 unfolding understood everything
-all_old_spans_is others indexes = record { is = refl; plain = (refl, refl); unlisted = refl }
+all_old_spans_is others indexes views = record { is = refl; plain = (refl, refl); unlisted = refl }
 
 -- all rows of the table in a tree
 abbrev pub empty_query : ℕ → Query

@@ -31,7 +31,6 @@ use Rattle.sqlite_keyed.proofs.ListLemmas.{map-map}
 use Rattle.sqlite.proofs.Callers.{IsPlain, reads_as, command_of}
 use Rattle.desk_sql.specs.Rows.{IsDesk, Tables, tables_of, Lists, is_text, is_same, differs, is_at_most, is_at_least, is_below, is_above}
 use Rattle.desk_sql.specs.Effects.{ShowsAsBefore}
-use Rattle.desk_sql.specs.Schema.{desk_schema}
 use Rattle.desk_sql.specs.Statements.{IsSureGiven, IsSureMeaning, MayRead, Selects}
 use Rattle.desk_sql.proofs.lemmas.QueryTexts.{IsQueryIn, query_of}
 
@@ -176,8 +175,9 @@ pub selected : (text : List ℕ) (params : Row) (cells : List ℕ) (wanted : Tab
     → Selects text params cells wanted → (old new : State) (rows : List Row) → IsDesk old.now
     → Shown text params old new rows → Lists cells (wanted (tables_of old.now.trees)) rows
 selected text params cells wanted known old new rows desk h = known.rows old.now rows desk
-    (shown_read text params old new rows desk.schema (sure_plain desk_schema text params known.sure)
-    known.sure.unlisted h)
+    (shown_read text params old new rows refl
+    (sure_plain old.now.schema text params (known.sure old.now.schema desk.schema))
+    (known.sure old.now.schema desk.schema).unlisted h)
 
 kept_first : {E : Type 0} (f : E → Row) (e : E) (x : Row) → f e ≡ x → (a b : Bool) → a ≡ b
     → (es : List E) (xs : List Row) → map f es ≡ xs → map f (cond a (e ∷ []) [] ++ es)

@@ -25,6 +25,7 @@ use Rattle.sqlite.specs.declared.error.Error.TheVariants.{SqliteFailure}
 use Rattle.sqlite.specs.declared.error.ErrorCode.TheVariants.{DatabaseCorrupt}
 use Rattle.sqlite.specs.Table.{Table}
 use Rattle.sqlite_schema.specs.declared.schema.Index.{Index}
+use Rattle.sqlite_schema.specs.declared.schema.View.{View}
 use Rattle.desk_sql.specs.Schema.{schema_to, tree_of, HasTable}
 use Rattle.desk_sql.specs.Rows.{AreNumbered, Lists, by_cells}
 use Rattle.desk_sql.specs.Statements.{IsRefusal, IsUnnumbered, AreRowsUnread, IsMisnumbered, IsSure, SelectsAll, rowids}
@@ -189,7 +190,8 @@ numbered_by rows shown same up =
 -- the query of the rowids of the table in a tree
 pub rowids_selected : (table : DeskTable) (text : List ℕ) (tree : ℕ)
     → IsWhole table text (rowids_query tree) (codes "rowid" ∷ [])
-    → ((others : List Table) (indexes : List Index) → IsSure (schema_to table others indexes) text)
+    → ((others : List Table) (indexes : List Index) (views : List View)
+    → IsSure (schema_to table others indexes views) text)
     → ((db : Trees) → overlay db [] tree ≡ db tree)
     → SelectsAll table text (0 ∷ []) (λ db. rowids (db tree))
 rowids_selected table text tree is sure alone =

@@ -21,7 +21,7 @@ use Rattle.sqlite.specs.Listing.{understood}
 use Rattle.sqlite.specs.State.{State, HasCleanDisk, HasCause, IsMisplaced, IsNoStatement, IsNotRun, IsUnchanged, IsRolledBack, RunsCommand, RunsAlone, ExecutesIn, Executes, EndsScope, ExecutesInside, is_pragma, shows_rows, text_of}
 use Rattle.sqlite.specs.Store.{Ghosts}
 use Rattle.sqlite.specs.Held.{Held, state}
-use Rattle.desk_sql.specs.Schema.{desk_schema}
+use Rattle.desk_sql.specs.Schema.{Beside, beside_of, desk_with, desk_in}
 use Rattle.desk_sql.specs.Effects.{IsUnderWay, Holds}
 use Rattle.desk_sql.specs.Rows.{IsDesk}
 use Rattle.desk_sql.specs.Statements.{IsRefusal, enforced}
@@ -177,12 +177,9 @@ pub refused_change : {S : Type 0} (g : Ghosts S) (old new : Held S) (text : List
     → (e : Error) → ExecutesInside 0 text params (state g old) (state g new) (Err e) → IsRefusal g old new e
 refused_change g old new text params Fits sure way clean fits e h =
     let under = way clean in
-    let schema = under.2.schema in
     caused_inside text params (state g old) (state g new) e under.0
-    (λ stop stops. sure.never old.step_limit (state g old).now stop under.2 under.3 fits
-    (subst (λ s. MayStop text (understood s text) params old.step_limit (state g old).now stop)
-    schema stops))
-    (subst (λ s. IsWholeIn text (length params) (understood s text)) (sym schema) sure.means) h
+    (λ stop stops. sure.never old.step_limit (state g old).now stop under.2 under.3 fits stops)
+    (sure.means (state g old).now.schema under.2.schema) h
 
 -- a text that is not prepared is not run
 not_run : (text : List ℕ) (params : Row) (old new : State) (e : Error) → IsTrue new.is_open
@@ -200,19 +197,20 @@ pub refused_unprepared : {S : Type 0} (g : Ghosts S) (old new : Held S) (text : 
     → (e : Error) → IsNotRun (state g old) (state g new) text params e → IsRefusal g old new e
 refused_unprepared g old new text params Fits sure ready clean live e =
     not_run text params (state g old) (state g new) e live
-    (λ was. subst (λ s. IsWholeIn text (length params) (understood s text)) (sym (ready clean was).schema)
-    sure.means)
+    (λ was. sure.means (state g old).now.schema (ready clean was).schema)
 
 -- a text that is this command stops where the command does
 pub stop_did : (text : List ℕ) (params : Row) (limit : Option ℕ) (old : Database) (stop : Option Error)
     → IsDesk old → (command : Command) → IsCommand text command
-    → MayStop text (understood desk_schema text) params limit old stop
-    → Does limit enforced params (record { schema = desk_schema; trees = old.trees })
-    (statement_of text (understood desk_schema text)) None command (Err stop)
+    → MayStop text (understood old.schema text) params limit old stop
+    → Does limit enforced params (record { schema = desk_in old.schema; trees = old.trees })
+    (statement_of text (understood (desk_in old.schema) text)) None command (Err stop)
 stop_did text params limit old stop desk command known stops =
+    let here = desk_in old.schema in
     subst (λ s. Does limit enforced params (record { schema = s; trees = old.trees })
-    (statement_of text (understood desk_schema text)) None command (Err stop)) desk.schema
-    (by_command (understood desk_schema text) known.is stops)
+    (statement_of text (understood here text)) None command (Err stop)) desk.schema.is
+    (by_command (understood here text) (known (beside_of old.schema)).is
+    (subst (λ s. MayStop text (understood s text) params limit old stop) desk.schema.is stops))
   where
     by_command : (r : Result Compiled CompileError) → command_of r ≡ command
         → MayStop text r params limit old stop
@@ -222,15 +220,20 @@ stop_did text params limit old stop desk command known stops =
     by_command (Err e) is h = absurd h
 
 pub sure_change : (text : List ℕ) (params : Row) (Fits : Database → Type 0) (command : Command)
-    → IsCommand text command → IsWrite command → length params ≡ names_in (understood desk_schema text)
-    → length text ≤ tail_of (understood desk_schema text)
+    → IsCommand text command → IsWrite command
+    → ((beside : Beside) → length params ≡ names_in (understood (desk_with beside) text))
+    → ((beside : Beside) → length text ≤ tail_of (understood (desk_with beside) text))
     → ((limit : Option ℕ) (db : Database) (stop : Option Error) → IsDesk db → IsDatabase db → Fits db
-    → Does limit enforced params (record { schema = desk_schema; trees = db.trees })
-    (statement_of text (understood desk_schema text)) None command (Err stop)
+    → Does limit enforced params (record { schema = desk_in db.schema; trees = db.trees })
+    (statement_of text (understood (desk_in db.schema) text)) None command (Err stop)
     → IsAtLimit limit stop)
     → IsSureChange text params Fits
 sure_change text params Fits command known writes given whole never = record {
-  means = whole_in text _ (understood desk_schema text) command known.is known.plain writes given whole;
+  means = λ schema desk.
+      let beside = beside_of schema in
+      subst (λ s. IsWholeIn text (length params) (understood s text)) (sym desk.is)
+      (whole_in text _ (understood (desk_with beside) text) command (known beside).is (known beside).plain writes
+      (given beside) (whole beside));
   never = λ limit db stop desk sound fits stops. never limit db stop desk sound fits
       (stop_did text params limit db stop desk command known stops);
 }

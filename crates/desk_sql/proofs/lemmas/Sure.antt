@@ -13,8 +13,8 @@ use Rattle.sqlite_resolve.specs.declared.compiled.Compiled.{Compiled}
 use Rattle.sqlite_resolve.specs.declared.error.CompileError.{CompileError}
 use Rattle.sqlite.proofs.Callers.{command_of}
 use Rattle.sqlite.specs.Schema.{Schema}
-use Rattle.desk_sql.specs.Schema.{desk_schema}
-use Rattle.desk_sql.specs.Statements.{NeverRefuses, IsSimple, IsSureGiven, IsSureMeaning}
+use Rattle.desk_sql.specs.Schema.{Beside, desk_with, beside_of}
+use Rattle.desk_sql.specs.Statements.{NeverRefuses, IsSimple, IsSureGiven, IsSureFor, IsSureMeaning}
 use Rattle.desk_sql.proofs.lemmas.QueryTexts.{IsQuery}
 use Rattle.desk_sql.proofs.lemmas.Stop.{names_in, tail_of}
 
@@ -24,14 +24,14 @@ Misfits query schema trees params = IsShown (λ (r : Row). r) (record { schema =
     (record { lets = []; body = query }) params None
 
 -- a query whose types fit, and in which nothing overflows
-pub never : (query : Query) (names : List (List ℕ)) (params : Row)
-    → ((trees : Trees) → ¬ Misfits query desk_schema trees params)
+never : (schema : Schema) (query : Query) (names : List (List ℕ)) (params : Row)
+    → ((trees : Trees) → ¬ Misfits query schema trees params)
     → ((db : Trees) → ¬ QueryOverflows query (overlay db []) params)
-    → NeverRefuses desk_schema (Select (record { lets = []; body = query }) names) params
-never query names params fits sums limit db e schema (inl h) =
-    absurd (fits db.trees (subst (λ s. Misfits query s db.trees params) schema h.1))
-never query names params fits sums limit db e schema (inr (inl h)) = absurd (sums db.trees h.1)
-never query names params fits sums limit db e schema (inr (inr h)) = h
+    → NeverRefuses schema (Select (record { lets = []; body = query }) names) params
+never schema query names params fits sums limit db e same (inl h) =
+    absurd (fits db.trees (subst (λ s. Misfits query s db.trees params) same h.1))
+never schema query names params fits sums limit db e same (inr (inl h)) = absurd (sums db.trees h.1)
+never schema query names params fits sums limit db e same (inr (inr h)) = h
 
 pub meant : (schema : Schema) (text : List ℕ) (r : Result Compiled CompileError) (query : Query)
     (names : List (List ℕ)) (params : Row)
@@ -50,12 +50,16 @@ meant schema text (Ok c) query names params is plain count whole sure = record {
 meant schema text (Err e) query names params is plain count whole sure = absurd plain
 
 pub sure_given : (text : List ℕ) (query : Query) (names : List (List ℕ)) (params : Row)
-    → IsQuery text query names → length params ≡ names_in (understood desk_schema text)
-    → length text ≤ tail_of (understood desk_schema text)
-    → ((trees : Trees) → ¬ Misfits query desk_schema trees params)
-    → ((db : Trees) → ¬ QueryOverflows query (overlay db []) params) → IsSureGiven desk_schema text params
-sure_given text query names params known count whole fits sums = record {
-  means = meant desk_schema text (understood desk_schema text) query names params known.is known.plain count
-      whole (never query names params fits sums);
-  unlisted = known.unlisted;
-}
+    → IsQuery text query names
+    → ((beside : Beside) → length params ≡ names_in (understood (desk_with beside) text))
+    → ((beside : Beside) → length text ≤ tail_of (understood (desk_with beside) text))
+    → ((beside : Beside) (trees : Trees) → ¬ Misfits query (desk_with beside) trees params)
+    → ((db : Trees) → ¬ QueryOverflows query (overlay db []) params) → IsSureFor text params
+sure_given text query names params known count whole fits sums schema desk =
+    let beside = beside_of schema in
+    let here = desk_with beside in
+    subst (λ s. IsSureGiven s text params) (sym desk.is) (record {
+      means = meant here text (understood here text) query names params (known beside).is (known beside).plain
+          (count beside) (whole beside) (never here query names params (fits beside) sums);
+      unlisted = (known beside).unlisted;
+    })

@@ -32,7 +32,7 @@ use Rattle.sqlite.specs.Held.{Held, state}
 use Rattle.sqlite.specs.Listing.{understood}
 use Rattle.sqlite.proofs.Callers.{IsPlain, command_of, statement_of, runs_as, one_step}
 use Rattle.sqlite_rules.proofs.ActionLemmas.{no_works}
-use Rattle.desk_sql.specs.Schema.{desk_schema, table_of}
+use Rattle.desk_sql.specs.Schema.{Beside, beside_of, desk_with, desk_in, table_of}
 use Rattle.desk_sql.specs.Rows.{IsDesk, Tables, tables_of}
 use Rattle.desk_sql.specs.Effects.{Holds, Makes}
 use Rattle.desk_sql.specs.Statements.{IsWriting, MayCount, MayWrite, Changes, enforced}
@@ -124,13 +124,14 @@ ran_sound text params old new schema has plain writing count h =
 pub changed : (text : List ℕ) (params : Row) (Change : Tables → Tables → Type 0) → Changes text params Change
     → (old new : State) → IsDesk old.now → (count : ℕ) → Executes text params old new (Ok count)
     → IsDesk new.now × Change (tables_of old.now.trees) (tables_of new.now.trees) × IsDatabase new.now
+    × (new.now.schema ≡ old.now.schema)
 changed text params Change known old new desk count h =
+    let here = old.now.schema in
+    let plain = known.plain here desk.schema in
+    let writes = known.writes here desk.schema in
     let done = known.tables old.step_limit old.now new.now desk
-    (ran text params old new desk_schema desk.schema known.plain known.writes count h) in (
-      done.0,
-      done.1,
-      ran_sound text params old new desk_schema desk.schema known.plain known.writes count h,
-    )
+    (ran text params old new here refl plain writes count h) in
+    (done.0, done.1, ran_sound text params old new here refl plain writes count h, done.2)
 
 pub is_writing : (r : Result Compiled CompileError) (command : Command) → command_of r ≡ command
     → IsWrite command → IsPlain r → IsWriting r
@@ -163,44 +164,54 @@ counts_command text (Err e) params limit old new count command is h = absurd h
 -- what a text does that counts so many rows
 pub did_counting : (text : List ℕ) (params : Row) (limit : Option ℕ) (old new : Database) (count : ℕ)
     → IsDesk old → (command : Command) → IsCommand text command
-    → MayCount text (understood desk_schema text) params limit old new count
-    → (tally : Tally) × Does limit enforced params (record { schema = desk_schema; trees = old.trees })
-    (statement_of text (understood desk_schema text)) None command (Ok (tally, new))
+    → MayCount text (understood old.schema text) params limit old new count
+    → (tally : Tally) × Does limit enforced params (record { schema = desk_in old.schema; trees = old.trees })
+    (statement_of text (understood (desk_in old.schema) text)) None command (Ok (tally, new))
     × (count ≡ unwrap_or tally.rows 0)
 did_counting text params limit old new count desk command known may =
-    let it = counts_command text (understood desk_schema text) params limit old new count command known.is may
+    let here = desk_in old.schema in
+    let it = counts_command text (understood here text) params limit old new count command
+    (known (beside_of old.schema)).is
+    (subst (λ s. MayCount text (understood s text) params limit old new count) desk.schema.is may)
     in (
       it.0,
       subst (λ s. Does limit enforced params (record old { schema = s })
-          (statement_of text (understood desk_schema text)) None command (Ok (it.0, new))) desk.schema it.1,
+          (statement_of text (understood here text)) None command (Ok (it.0, new))) desk.schema.is it.1,
       it.2,
     )
 
 module _ (text : List ℕ) (params : Row) (limit : Option ℕ) (old new : Database) where
   abbrev pub May : Type 0
-  May = MayWrite text (understood desk_schema text) params limit old new
+  May = MayWrite text (understood old.schema text) params limit old new
 
   abbrev pub Did : Command → Type 0
   Did command = (tally : Tally) × Does limit enforced params
-      (record { schema = desk_schema; trees = old.trees })
-      (statement_of text (understood desk_schema text)) None command (Ok (tally, new))
+      (record { schema = desk_in old.schema; trees = old.trees })
+      (statement_of text (understood (desk_in old.schema) text)) None command (Ok (tally, new))
 
   pub did : IsDesk old → (command : Command) → IsCommand text command → May → Did command
   did desk command known may =
-      let it = does_command text (understood desk_schema text) params limit old new command known.is may
+      let here = desk_in old.schema in
+      let it = does_command text (understood here text) params limit old new command
+      (known (beside_of old.schema)).is
+      (subst (λ s. MayWrite text (understood s text) params limit old new) desk.schema.is may)
       in (
         it.0,
         subst (λ s. Does limit enforced params (record old { schema = s })
-            (statement_of text (understood desk_schema text)) None command (Ok (it.0, new))) desk.schema it.1,
+            (statement_of text (understood here text)) None command (Ok (it.0, new))) desk.schema.is it.1,
       )
 
 pub changes_by : (text : List ℕ) (params : Row) (Change : Tables → Tables → Type 0) (command : Command)
     → IsCommand text command → IsWrite command → ((limit : Option ℕ) (old new : Database) → IsDesk old
-    → May text params limit old new → IsDesk new × Change (tables_of old.trees) (tables_of new.trees))
+    → May text params limit old new → IsDesk new × Change (tables_of old.trees) (tables_of new.trees)
+    × (new.schema ≡ old.schema))
     → Changes text params Change
 changes_by text params Change command known writing gives = record {
-  plain = known.plain;
-  writes = is_writing (understood desk_schema text) command known.is writing known.plain;
+  plain = λ schema desk. subst (λ s. IsPlain (understood s text)) (sym desk.is) (known (beside_of schema)).plain;
+  writes = λ schema desk.
+      let here = known (beside_of schema) in
+      subst (λ s. IsWriting (understood s text)) (sym desk.is)
+      (is_writing (understood (desk_in schema) text) command here.is writing here.plain);
   tables = gives;
 }
 
@@ -232,40 +243,41 @@ module _ (limit : Option ℕ) (params : Row) (name : List ℕ) (cols : List Colu
   abbrev pub table_at : Table
   table_at = record (table_of name cols key refs) { tree = tree }
 
-  abbrev pub task_at : Task
-  task_at = record {
+  abbrev pub task_at : Beside → Task
+  task_at beside = record {
     limit = limit;
     keys = Enforced;
-    schema = desk_schema;
+    schema = desk_with beside;
     table = table_at;
     params = params;
   }
 
-  pub insert_applies : (terms : List Term) (width : ℕ) (db : Trees) (w : Written) (source : Row)
+  pub insert_applies : (beside : Beside) (terms : List Term) (width : ℕ) (db : Trees) (w : Written)
+      (source : Row)
       → value_rows (params ++ []) width (length terms / width) terms ≡ source ∷ []
-      → Inserts task_at (Values terms width) db (Ok w)
-      → Applies desk_schema Enforced db (edit_of db table_at [] Chosen 0 (source ∷ [])) w.trees
-  insert_applies terms width db w source one h =
+      → Inserts (task_at beside) (Values terms width) db (Ok w)
+      → Applies (desk_with beside) Enforced db (edit_of db table_at [] Chosen 0 (source ∷ [])) w.trees
+  insert_applies beside terms width db w source one h =
       let given = went h in
       let counter = went given.2 in
       let written = went counter.2 in
       let counted = went written.2 in
       let rows : given.0 ≡ source ∷ [] = given.1.1 ∙ one in
-      let step = one_step desk_schema Enforced db written.0 (edit_of db table_at [] Chosen 0 given.0)
-      (no_works desk_schema Enforced 0 tree (edit_of db table_at [] Chosen 0 given.0).news) written.1 in
+      let step = one_step (desk_with beside) Enforced db written.0 (edit_of db table_at [] Chosen 0 given.0)
+      (no_works (desk_with beside) Enforced 0 tree (edit_of db table_at [] Chosen 0 given.0).news) written.1 in
       let trees : w.trees ≡ written.0 = ap (λ (it : Written). it.trees) (same_value counted.2)
       ∙ same_value counted.1 in
-      subst (λ rs. Applies desk_schema Enforced db (edit_of db table_at [] Chosen 0 rs) w.trees) rows
-      (subst (Applies desk_schema Enforced db (edit_of db table_at [] Chosen 0 given.0)) (sym trees)
+      subst (λ rs. Applies (desk_with beside) Enforced db (edit_of db table_at [] Chosen 0 rs) w.trees) rows
+      (subst (Applies (desk_with beside) Enforced db (edit_of db table_at [] Chosen 0 given.0)) (sym trees)
       step)
 
 -- one row came to a tree, under a rowid that was free
-pub record Adds (tree : ℕ) (new : Row) (db next : Trees) : Type 0 where
+pub record Adds (beside : Beside) (tree : ℕ) (new : Row) (db next : Trees) : Type 0 where
   pub at : next tree ≡ put_row new (db tree)
   pub free : is_taken (db tree) new ≡ false
   pub whole : is_int (rowid new) ≡ true
   pub others : AllByRecursion (λ (t : Table). t.tree ≢ tree → next t.tree ≡ db t.tree)
-      desk_schema.tables
+      (desk_with beside).tables
 
 and_first : (a b : Bool) → (a && b) ≡ true → a ≡ true
 and_first true b h = refl
@@ -275,13 +287,13 @@ not_true : (a : Bool) → not a ≡ true → a ≡ false
 not_true true h = cc
 not_true false h = refl
 
-pub adds : (name : List ℕ) (cols : List Column) (key : List ℕ) (refs : List Reference) (tree : ℕ)
-    (db next : Trees) (source : Row) → Applies desk_schema Enforced db
+pub adds : (beside : Beside) (name : List ℕ) (cols : List Column) (key : List ℕ) (refs : List Reference) (tree : ℕ)
+    (db next : Trees) (source : Row) → Applies (desk_with beside) Enforced db
     (edit_of db (table_at None [] name cols key refs tree) [] Chosen 0 (source ∷ [])) next
-    → Adds tree (with_rowid Chosen (db tree) (cast_row (table_at None [] name cols key refs tree)
+    → Adds beside tree (with_rowid Chosen (db tree) (cast_row (table_at None [] name cols key refs tree)
     source)) db
     next
-adds name cols key refs tree db next source h = record {
+adds beside name cols key refs tree db next source h = record {
   at = h.rows;
   free = not_true _ (and_first _ _ h.fresh);
   whole = and_first _ _ h.keyed;
@@ -309,7 +321,8 @@ module _ {S : Type 0} (g : Ghosts S) (old new : Held S) (ready : Holds g old IsD
     (shows : Shows (state g old) (state g new) (state g new).now (state g old).committed true) where
   pub makes : (IsDesk (state g old).now → IsDesk (state g new).now
       × Changes (tables_of (state g old).now.trees) (tables_of (state g new).now.trees)
-      × IsDatabase (state g new).now) → Makes g old new Changes
+      × IsDatabase (state g new).now × ((state g new).now.schema ≡ (state g old).now.schema))
+      → Makes g old new Changes
   makes gives =
       let done = gives (ready clean shows.was_open) in
       record {
@@ -318,6 +331,7 @@ module _ {S : Type 0} (g : Ghosts S) (old new : Held S) (ready : Holds g old IsD
         begun = shows.mode;
         committed = shows.committed_is;
         desk = done.0;
+        beside = ap beside_of done.3;
         sound = done.2;
         changed = done.1;
       }

@@ -12,13 +12,13 @@ use Rattle.desk_sql.proofs.lemmas.OldTexts.{all_old_volumes_text, all_old_volume
 
 pub all_old_volumes_sure : IsSureWith OldVolume all_old_volumes_text
 unfolding understood everything
-all_old_volumes_sure others indexes =
-    sure_scan (all_old_volumes_is others indexes) refl (omega arith) (λ trees misfit. true≢false misfit)
+all_old_volumes_sure others indexes views =
+    sure_scan (all_old_volumes_is others indexes views) refl (omega arith) (λ trees misfit. true≢false misfit)
 
 pub all_old_spans_sure : IsSureWith OldSpan all_old_spans_text
 unfolding understood everything
-all_old_spans_sure others indexes =
-    sure_scan (all_old_spans_is others indexes) refl (omega arith) (λ trees misfit. true≢false misfit)
+all_old_spans_sure others indexes views =
+    sure_scan (all_old_spans_is others indexes views) refl (omega arith) (λ trees misfit. true≢false misfit)
 
 pub all_old_volumes_selected :
     SelectsAll OldVolume all_old_volumes_text (0 ∷ 1 ∷ 2 ∷ []) (λ db. (tables_of db).old_volumes)

@@ -17,7 +17,7 @@ steps-preserved g c =
       grown_more g.S.Store c.args.made c.steps.at c.in-Some.next old mid new c.steps.invariant.1
           c.run.ensures.remembered
           (λ clean. grows g.S.Store c.steps.at c.in-Some.next mid new c.in-Some.text.now
-          c.in-Some.ensures.step.extends (λ clean live. (c.steps.invariant.1.grown clean (inr live)).has)
+          (λ none. omega (arith, none, c.in-Some.ensures.one_fewer)) c.in-Some.ensures.step.extends (λ clean live. (c.steps.invariant.1.grown clean (inr live)).has)
           (omega (arith, c.run.ensures.remembered.doubt, clean)) (c.in_ok-run.ensures.shown clean)
           c.in_ok-run.field-0 (c.in_ok-run.ensures.ran clean)),
       λ clean _. (c.in_ok-run.ensures.shown clean).is_open,
@@ -34,6 +34,7 @@ returns-in_err-run-clause-ran g c =
     → IsRefusal g.S.Store old new c.in_err-run.field-0.0 = λ small clean live.
     let early : HasCleanDisk (state g.S.Store mid) = omega (arith, c.run.ensures.remembered.doubt, clean) in
     step_refused g.S.Store c.args.made c.steps.at c.in-Some.next old mid new c.in-Some.text.now
+    (λ none. omega (arith, none, c.in-Some.ensures.one_fewer))
     c.in-Some.ensures.step c.steps.invariant.1 early (c.steps.invariant.2 early live) small _
     (c.in_err-run.ensures.stopped clean) in
     search (rules, refused)
