@@ -412,7 +412,7 @@ first_grown : (old new : Database) → IsMadeTo Spans old → new.schema ≡ des
     × (beside_of new.schema ≡ beside_of old.schema)
 first_grown old new was schema kept = (
   record {
-    schema = subst IsDeskSchema (sym schema) (record { is = refl; apart = refl });
+    schema = subst IsDeskSchema (sym schema) (record { is = refl; apart = record { tables = refl; indexes = refl } });
     rows = λ table there. elim table as (λ t. has_table All t ≡ true
         → AreNumbered (new.trees (tree_of t))) [
           | desk.Operator ↦ λ there. subst AreNumbered (sym kept.0) (was.rows desk.Operator refl)

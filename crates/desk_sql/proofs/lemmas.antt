@@ -1,4 +1,5 @@
 -- Lemmas of the texts of SQL and of the trees that they change, which crates above may cite.
+pub mod Beside
 pub mod Cascade
 pub mod CommandTexts
 pub mod Key

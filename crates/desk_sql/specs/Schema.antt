@@ -213,10 +213,6 @@ beside_of schema =
 abbrev pub desk_in : Schema → Schema
 desk_in schema = desk_with (beside_of schema)
 
--- the number of a b-tree that is none of the desk's
-abbrev pub is_behind : ℕ → Bool
-is_behind tree = nat_lt 13 tree
-
 -- the names of the desk's tables
 abbrev pub own_names : List (List ℕ)
 own_names = codes "operator" ∷ codes "plan" ∷ codes "volume" ∷ codes "span" ∷ codes "volume2" ∷ codes "span2" ∷ []
@@ -228,20 +224,25 @@ is_own_name name = list_any (λ own. same_name own name) own_names
 abbrev pub refers_elsewhere : Reference → Bool
 refers_elsewhere reference = not (is_own_name reference.parent)
 
-abbrev pub is_table_apart : Table → Bool
-is_table_apart table = is_behind table.tree && list_all refers_elsewhere table.references
+-- each table has a b-tree behind the one before, and refers to none of the desk's
+abbrev pub are_tables_apart : ℕ → List Table → Bool
+are_tables_apart last [] = true
+are_tables_apart last (table ∷ tables) =
+    nat_lt last table.tree && (list_all refers_elsewhere table.references && are_tables_apart table.tree tables)
 
+-- an index of a table behind the desk's, whose last b-tree is 13
 abbrev pub is_index_apart : Index → Bool
-is_index_apart index = is_behind index.table
+is_index_apart index = nat_lt 13 index.table
 
--- no table refers to one of the desk's, and no index is on one of them
-abbrev pub stands_apart : Beside → Bool
-stands_apart beside = list_all is_table_apart beside.tables && list_all is_index_apart beside.indexes
+-- no table is one of the desk's or refers to one, and no index is on one of them
+pub record IsApart (beside : Beside) : Type 0 where
+  pub tables : are_tables_apart 13 beside.tables ≡ true
+  pub indexes : list_all is_index_apart beside.indexes ≡ true
 
 -- the desk's tables and indexes, and others beside them that stand apart
 pub record IsDeskSchema (schema : Schema) : Type 0 where
   pub is : schema ≡ desk_in schema
-  pub apart : stands_apart (beside_of schema) ≡ true
+  pub apart : IsApart (beside_of schema)
 
 -- the schema of a database that has the tables and indexes `made`
 abbrev pub schema_of : TablesPresent → Schema

@@ -56,9 +56,9 @@ empty_query tree = query_of (inner tree end) [] (col 1 0 ∷ []) []
 pub empty_old_volumes_is : IsCommand empty_old_volumes_text
     (Delete 2 (record { lets = []; body = empty_query 4 }))
 unfolding understood everything
-empty_old_volumes_is = record { is = refl; plain = (refl, refl) }
+empty_old_volumes_is beside = record { is = refl; plain = (refl, refl) }
 
 pub empty_old_spans_is : IsCommand empty_old_spans_text
     (Delete 3 (record { lets = []; body = empty_query 6 }))
 unfolding understood everything
-empty_old_spans_is = record { is = refl; plain = (refl, refl) }
+empty_old_spans_is beside = record { is = refl; plain = (refl, refl) }

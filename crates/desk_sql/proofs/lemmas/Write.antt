@@ -11,7 +11,7 @@ use Rattle.sqlite.specs.Kind.TheVariants.{Integer}
 use Rattle.sqlite.specs.Tree.{Trees, rowid, put_row}
 use Rattle.sqlite.specs.View.{is_int}
 use Rattle.sqlite.specs.Table.{Table}
-use Rattle.sqlite.specs.Edit.{edit_of, is_taken, with_rowid, Applies}
+use Rattle.sqlite.specs.Edit.{Edit, edit_of, is_taken, with_rowid, Applies}
 use Rattle.sqlite.specs.Rowids.TheVariants.{Chosen}
 use Rattle.sqlite.specs.Command.{Command}
 use Rattle.sqlite.specs.Command.TheVariants.{Select, Insert, InsertOr, Update, Delete, CreateTable, CreateIndex, DropTable, DropIndex, Begin, Commit, Rollback, Savepoint, Release, RollbackTo, Rows, Nothing, CreateView, DropView}
@@ -32,7 +32,7 @@ use Rattle.sqlite.specs.Held.{Held, state}
 use Rattle.sqlite.specs.Listing.{understood}
 use Rattle.sqlite.proofs.Callers.{IsPlain, command_of, statement_of, runs_as, one_step}
 use Rattle.sqlite_rules.proofs.ActionLemmas.{no_works}
-use Rattle.desk_sql.specs.Schema.{Beside, beside_of, desk_with, desk_in, table_of}
+use Rattle.desk_sql.specs.Schema.{Beside, IsApart, beside_of, desk_with, desk_in, table_of}
 use Rattle.desk_sql.specs.Rows.{IsDesk, Tables, tables_of}
 use Rattle.desk_sql.specs.Effects.{Holds, Makes}
 use Rattle.desk_sql.specs.Statements.{IsWriting, MayCount, MayWrite, Changes, enforced}
@@ -243,41 +243,45 @@ module _ (limit : Option ℕ) (params : Row) (name : List ℕ) (cols : List Colu
   abbrev pub table_at : Table
   table_at = record (table_of name cols key refs) { tree = tree }
 
-  abbrev pub task_at : Beside → Task
-  task_at beside = record {
+module _ {beside : Beside} (away : IsApart beside) where
+  abbrev pub task_at : Option ℕ → Row → List ℕ → List Column → List ℕ → List Reference → ℕ → Task
+  task_at limit params name cols key refs tree = record {
     limit = limit;
     keys = Enforced;
     schema = desk_with beside;
-    table = table_at;
+    table = table_at limit params name cols key refs tree;
     params = params;
   }
 
-  pub insert_applies : (beside : Beside) (terms : List Term) (width : ℕ) (db : Trees) (w : Written)
-      (source : Row)
-      → value_rows (params ++ []) width (length terms / width) terms ≡ source ∷ []
-      → Inserts (task_at beside) (Values terms width) db (Ok w)
-      → Applies (desk_with beside) Enforced db (edit_of db table_at [] Chosen 0 (source ∷ [])) w.trees
-  insert_applies beside terms width db w source one h =
-      let given = went h in
-      let counter = went given.2 in
-      let written = went counter.2 in
-      let counted = went written.2 in
-      let rows : given.0 ≡ source ∷ [] = given.1.1 ∙ one in
-      let step = one_step (desk_with beside) Enforced db written.0 (edit_of db table_at [] Chosen 0 given.0)
-      (no_works (desk_with beside) Enforced 0 tree (edit_of db table_at [] Chosen 0 given.0).news) written.1 in
-      let trees : w.trees ≡ written.0 = ap (λ (it : Written). it.trees) (same_value counted.2)
-      ∙ same_value counted.1 in
-      subst (λ rs. Applies (desk_with beside) Enforced db (edit_of db table_at [] Chosen 0 rs) w.trees) rows
-      (subst (Applies (desk_with beside) Enforced db (edit_of db table_at [] Chosen 0 given.0)) (sym trees)
-      step)
+  module _ (limit : Option ℕ) (params : Row) (name : List ℕ) (cols : List Column) (key : List ℕ)
+      (refs : List Reference) (tree : ℕ) where
+    abbrev edit_at : Trees → List Row → Edit
+    edit_at db sources = edit_of db (table_at limit params name cols key refs tree) [] Chosen 0 sources
 
--- one row came to a tree, under a rowid that was free
-pub record Adds (beside : Beside) (tree : ℕ) (new : Row) (db next : Trees) : Type 0 where
-  pub at : next tree ≡ put_row new (db tree)
-  pub free : is_taken (db tree) new ≡ false
-  pub whole : is_int (rowid new) ≡ true
-  pub others : AllByRecursion (λ (t : Table). t.tree ≢ tree → next t.tree ≡ db t.tree)
-      (desk_with beside).tables
+    pub insert_applies : (terms : List Term) (width : ℕ) (db : Trees) (w : Written) (source : Row)
+        → value_rows (params ++ []) width (length terms / width) terms ≡ source ∷ []
+        → Inserts (task_at limit params name cols key refs tree) (Values terms width) db (Ok w)
+        → Applies (desk_with beside) Enforced db (edit_at db (source ∷ [])) w.trees
+    insert_applies terms width db w source one h =
+        let given = went h in
+        let counter = went given.2 in
+        let written = went counter.2 in
+        let counted = went written.2 in
+        let rows : given.0 ≡ source ∷ [] = given.1.1 ∙ one in
+        let step = one_step (desk_with beside) Enforced db written.0 (edit_at db given.0)
+        (no_works (desk_with beside) Enforced 0 tree (edit_at db given.0).news) written.1 in
+        let trees : w.trees ≡ written.0 = ap (λ (it : Written). it.trees) (same_value counted.2)
+        ∙ same_value counted.1 in
+        subst (λ rs. Applies (desk_with beside) Enforced db (edit_at db rs) w.trees) rows
+        (subst (Applies (desk_with beside) Enforced db (edit_at db given.0)) (sym trees) step)
+
+  -- one row came to a tree, under a rowid that was free
+  pub record Adds (tree : ℕ) (new : Row) (db next : Trees) : Type 0 where
+    pub at : next tree ≡ put_row new (db tree)
+    pub free : is_taken (db tree) new ≡ false
+    pub whole : is_int (rowid new) ≡ true
+    pub others : AllByRecursion (λ (t : Table). t.tree ≢ tree → next t.tree ≡ db t.tree)
+        (desk_with beside).tables
 
 and_first : (a b : Bool) → (a && b) ≡ true → a ≡ true
 and_first true b h = refl
@@ -287,18 +291,18 @@ not_true : (a : Bool) → not a ≡ true → a ≡ false
 not_true true h = cc
 not_true false h = refl
 
-pub adds : (beside : Beside) (name : List ℕ) (cols : List Column) (key : List ℕ) (refs : List Reference) (tree : ℕ)
-    (db next : Trees) (source : Row) → Applies (desk_with beside) Enforced db
-    (edit_of db (table_at None [] name cols key refs tree) [] Chosen 0 (source ∷ [])) next
-    → Adds beside tree (with_rowid Chosen (db tree) (cast_row (table_at None [] name cols key refs tree)
-    source)) db
-    next
-adds beside name cols key refs tree db next source h = record {
-  at = h.rows;
-  free = not_true _ (and_first _ _ h.fresh);
-  whole = and_first _ _ h.keyed;
-  others = h.tables;
-}
+module _ {beside : Beside} (away : IsApart beside) where
+  pub adds : (name : List ℕ) (cols : List Column) (key : List ℕ) (refs : List Reference) (tree : ℕ)
+      (db next : Trees) (source : Row) → Applies (desk_with beside) Enforced db
+      (edit_of db (table_at None [] name cols key refs tree) [] Chosen 0 (source ∷ [])) next
+      → Adds away tree (with_rowid Chosen (db tree) (cast_row (table_at None [] name cols key refs tree)
+      source)) db next
+  adds name cols key refs tree db next source h = record {
+    at = h.rows;
+    free = not_true _ (and_first _ _ h.fresh);
+    whole = and_first _ _ h.keyed;
+    others = h.tables;
+  }
 
 -- ---- what a column makes of a value
 

@@ -3,7 +3,7 @@
 ghost use Rattle.std.specs.Prelude.{◌≡◌, ◌↔◌, ◌<◌, ◌-◌, ◌^◌, [], ◌∷◌, IsTrue, MatchOption, map};
 ghost use Rattle.sqlite_value.specs.Keys.{plain};
 ghost use Rattle.std.specs.List.{list_all};
-ghost use Rattle.desk_sql.specs.Schema.{is_behind, is_own_name, refers_elsewhere, is_table_apart, is_index_apart, IsDeskSchema, IsSchemaOf, column_of, leaf_index_of, schema_of, no_stamps, without_extras, plain_table, key_index, column_from, name_from, reference_from, table_from, tables_from, index_from, schema_from};
+ghost use Rattle.desk_sql.specs.Schema.{is_own_name, refers_elsewhere, are_tables_apart, is_index_apart, IsDeskSchema, IsSchemaOf, column_of, leaf_index_of, schema_of, no_stamps, without_extras, plain_table, key_index, column_from, name_from, reference_from, table_from, tables_from, index_from, schema_from};
 
 use crate::opening::finding::TablesPresent;
 use crate::opening::objects::{ColumnForm, DeskObject, ReferenceForm, TableForm, objects};
@@ -232,13 +232,6 @@ fn has_objects(schema: &Schema, objects: &[DeskObject]) -> bool
         && has_no_views(schema)
 }
 
-/// Whether `tree` is the number of a b-tree that is none of the desk's.
-fn is_behind(tree: u32) -> bool
-    ensures { result ≡ is_behind tree }
-{
-    tree > 13
-}
-
 /// Whether one of the desk's tables has this name, in either case.
 fn is_own_name(name: &[u8]) -> bool
     ensures { result ≡ is_own_name name.now }
@@ -260,20 +253,26 @@ fn refer_elsewhere(references: &[Reference]) -> bool
         .all(|reference| !is_own_name(reference.parent.as_slice()))
 }
 
-/// Whether none of these tables is one of the desk's or refers to one.
-fn are_tables_apart(tables: &[Table]) -> bool
-    ensures { result ≡ list_all is_table_apart tables.now }
+/// Whether each of these tables has a b-tree behind the one before, the first behind `last`, and refers to
+/// none of the desk's tables.
+fn are_tables_apart(tables: &[Table], last: u32) -> bool
+    ensures { result ≡ are_tables_apart last tables.now }
 {
-    tables
-        .iter()
-        .all(|table| is_behind(table.tree) && refer_elsewhere(table.references.as_slice()))
+    match tables {
+        [] => true,
+        [table, others @ ..] => {
+            table.tree > last
+                && refer_elsewhere(table.references.as_slice())
+                && are_tables_apart(others, table.tree)
+        }
+    }
 }
 
 /// Whether none of these indexes is on one of the desk's tables.
 fn are_indexes_apart(indexes: &[Index]) -> bool
     ensures { result ≡ list_all is_index_apart indexes.now }
 {
-    indexes.iter().all(|index| is_behind(index.table))
+    indexes.iter().all(|index| index.table > 13)
 }
 
 /// Whether the database has all tables and indexes of a desk, in canonical order, and all others stand apart
@@ -289,7 +288,7 @@ fn is_desk(schema: &Schema) -> bool
     let (indexes, other_indexes) = schema.indexes.as_slice().split_at(8);
     are_tables(tables, own)
         && all_match(indexes, own)
-        && are_tables_apart(other_tables)
+        && are_tables_apart(other_tables, 13)
         && are_indexes_apart(other_indexes)
 }
 

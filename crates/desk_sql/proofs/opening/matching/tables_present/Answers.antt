@@ -1,3 +1,4 @@
+use Rattle.desk_sql.proofs.lemmas.Beside.{others_fit}
 use Rattle.std.proofs.Common.{arith}
 use Rattle.std.proofs.lemmas.Bool.{both_ways}
 use Rattle.desk_sql.specs.Schema.{IsSchemaOf}
