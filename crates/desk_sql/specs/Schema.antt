@@ -235,14 +235,14 @@ abbrev pub is_index_apart : Index → Bool
 is_index_apart index = nat_lt 13 index.table
 
 -- no table is one of the desk's or refers to one, and no index is on one of them
-pub record IsApart (beside : Beside) : Type 0 where
+pub record StandsApart (beside : Beside) : Type 0 where
   pub tables : are_tables_apart 13 beside.tables ≡ true
   pub indexes : list_all is_index_apart beside.indexes ≡ true
 
 -- the desk's tables and indexes, and others beside them that stand apart
 pub record IsDeskSchema (schema : Schema) : Type 0 where
   pub is : schema ≡ desk_in schema
-  pub apart : IsApart (beside_of schema)
+  pub apart : StandsApart (beside_of schema)
 
 -- the schema of a database that has the tables and indexes `made`
 abbrev pub schema_of : TablesPresent → Schema

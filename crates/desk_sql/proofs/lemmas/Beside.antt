@@ -19,7 +19,7 @@ use Rattle.sqlite_schema.specs.declared.schema.Index.{Index}
 use Rattle.sqlite_schema.specs.declared.schema.Keys.{Keys}
 use Rattle.sqlite_schema.specs.declared.schema.Reference.{Reference}
 use Rattle.sqlite_tied.specs.Compute.{everything}
-use Rattle.desk_sql.specs.Schema.{Beside, IsApart, are_tables_apart, desk_schema, desk_with, is_index_apart, is_own_name, own_names, refers_elsewhere}
+use Rattle.desk_sql.specs.Schema.{Beside, StandsApart, are_tables_apart, desk_schema, desk_with, is_index_apart, is_own_name, own_names, refers_elsewhere}
 use Rattle.desk_sql.proofs.lemmas.Number.{unequal}
 
 -- ---- tables that are apart
@@ -95,7 +95,7 @@ no_work depth tree moves child ref (Some deed) (Some k) behind =
 
 -- ---- beside the desk's tables
 
-module _ {beside : Beside} (away : IsApart beside) where
+module _ {beside : Beside} (away : StandsApart beside) where
   pub behind : (t : Table) → Has beside.tables t → 13 < t.tree
   behind t known = (far 13 beside.tables away.tables t known).0
 

@@ -1,5 +1,5 @@
 -- What the keys' actions take out with a plan.
-use Rattle.std.proofs.Common.{◌≡◌, ◌≢◌, inl, inr, ℕ, zero, suc, ℤ, Bool, true, false, not, cond, List, [], ◌∷◌, ◌++◌, map, filter, find, unwrap_or, Ok, refl, sym, ap, ap₂, subst, ◌∙◌, ◌&&◌, ◌||◌, Some, true≢false, append-nil, IsPermutation, Ordering, Less, Equal, Greater}
+use Rattle.std.proofs.Common.{◌≡◌, ◌≢◌, inl, inr, ℕ, zero, suc, ℤ, Bool, true, false, not, cond, List, [], ◌∷◌, ◌++◌, map, filter, find, unwrap_or, Ok, refl, sym, ap, ap₂, subst, ◌∙◌, ◌&&◌, ◌||◌, Some, true≢false, append-nil, IsPermutation, Ordering, Less, Equal, Greater, arith}
 use Rattle.std.specs.Ordering.{is_eq}
 use Rattle.std.specs.List.{AllByRecursion, list_any}
 use Rattle.std.proofs.lemmas.List.Sorted.{list_any-IsPermutation}
@@ -25,11 +25,13 @@ use Rattle.sqlite_value.specs.Keys.{plain, first_key}
 use Rattle.sqlite_schema.specs.Rules.{equal, agree}
 use Rattle.sqlite_schema.specs.declared.schema.Keys.TheVariants.{Enforced}
 use Rattle.sqlite_tied.specs.Compute.{everything}
-use Rattle.desk_sql.specs.Schema.{desk_schema, old_volume_table, old_span_table, volume_table, span_table, to_plan}
+use Rattle.desk_sql.specs.Schema.{desk_schema, old_volume_table, old_span_table, volume_table, span_table, to_plan, Beside, StandsApart, desk_with}
 use Rattle.desk_sql.specs.Rows.{AreNumbered, is_text, is_same}
 use Rattle.desk_sql.proofs.lemmas.Read.{equals}
 use Rattle.desk_sql.proofs.lemmas.Write.{same_value}
 use Rattle.desk_sql.proofs.lemmas.Number.{IsApart, unequal, reversed, hits, all_both, all_kept, any_map, turned, has_is, filter_same_on, without_is}
+use Rattle.desk_sql.proofs.lemmas.Beside.{rest_stays, works_as}
+use Rattle.sqlite_rules.proofs.ListLemmas.{all_from}
 
 -- ---- which actions there are
 
@@ -65,31 +67,49 @@ abbrev pub plan_actions : List (Row × Row) → List Work
 plan_actions moves = delete_on old_volumes_at moves ∷ delete_on old_spans_at moves
     ∷ delete_on volumes_at moves ∷ delete_on spans_at moves ∷ []
 
-pub plan_works : (olds : List Row) (b : Bool) → list_any (loses plain key_places) (pairs olds []) ≡ b
+own_plan_works : (olds : List Row) (b : Bool) → list_any (loses plain key_places) (pairs olds []) ≡ b
     → works desk_schema Enforced 0 2 olds [] ≡ cond b (plan_actions (pairs olds [])) []
 unfolding everything
-plan_works olds true some = rw some
-plan_works olds false none = rw none
+own_plan_works olds true some = rw some
+own_plan_works olds false none = rw none
 
--- the tree's table has no children
-abbrev pub IsQuiet : ℕ → Type 0
-IsQuiet tree = (depth : ℕ) (olds : List Row) → works desk_schema Enforced depth tree olds [] ≡ []
+module _ (depth : ℕ) (olds : List Row) where
+  none_on_4 : works desk_schema Enforced depth 4 olds [] ≡ []
+  unfolding everything
+  none_on_4 = refl
 
-pub old_volume_works : IsQuiet 4
-unfolding everything
-old_volume_works depth olds = refl
+  none_on_6 : works desk_schema Enforced depth 6 olds [] ≡ []
+  unfolding everything
+  none_on_6 = refl
 
-pub old_span_works : IsQuiet 6
-unfolding everything
-old_span_works depth olds = refl
+  none_on_9 : works desk_schema Enforced depth 9 olds [] ≡ []
+  unfolding everything
+  none_on_9 = refl
 
-pub volume_works : IsQuiet 9
-unfolding everything
-volume_works depth olds = refl
+  none_on_11 : works desk_schema Enforced depth 11 olds [] ≡ []
+  unfolding everything
+  none_on_11 = refl
 
-pub span_works : IsQuiet 11
-unfolding everything
-span_works depth olds = refl
+module _ {beside : Beside} (away : StandsApart beside) where
+  pub plan_works : (olds : List Row) (b : Bool) → list_any (loses plain key_places) (pairs olds []) ≡ b
+      → works (desk_with beside) Enforced 0 2 olds [] ≡ cond b (plan_actions (pairs olds [])) []
+  plan_works olds b some = works_as away Enforced 0 2 olds [] (omega arith) ∙ own_plan_works olds b some
+
+  -- the tree's table has no children
+  abbrev pub IsQuiet : ℕ → Type 0
+  IsQuiet tree = (depth : ℕ) (olds : List Row) → works (desk_with beside) Enforced depth tree olds [] ≡ []
+
+  pub old_volume_works : IsQuiet 4
+  old_volume_works depth olds = works_as away Enforced depth 4 olds [] (omega arith) ∙ none_on_4 depth olds
+
+  pub old_span_works : IsQuiet 6
+  old_span_works depth olds = works_as away Enforced depth 6 olds [] (omega arith) ∙ none_on_6 depth olds
+
+  pub volume_works : IsQuiet 9
+  volume_works depth olds = works_as away Enforced depth 9 olds [] (omega arith) ∙ none_on_9 depth olds
+
+  pub span_works : IsQuiet 11
+  span_works depth olds = works_as away Enforced depth 11 olds [] (omega arith) ∙ none_on_11 depth olds
 
 -- ---- what an old row's key is
 
@@ -316,67 +336,69 @@ children_go db w ids are num =
 
 -- ---- the actions in turn
 
-abbrev pub Others : ℕ → Trees → Trees → Type 0
-Others tree db next = AllByRecursion (λ (t : Table). t.tree ≢ tree → next t.tree ≡ db t.tree)
-    desk_schema.tables
+module _ {beside : Beside} (away : StandsApart beside) where
+  abbrev pub Others : ℕ → Trees → Trees → Type 0
+  Others tree db next = AllByRecursion (λ (t : Table). t.tree ≢ tree → next t.tree ≡ db t.tree)
+      (desk_with beside).tables
 
--- the children went from one tree
-pub record Took (tree : ℕ) (child : Row → Bool) (db next : Trees) : Type 0 where
-  pub rows : next tree ≡ filter (λ r. not (child r)) (db tree)
-  pub others : Others tree db next
+  -- the children went from one tree
+  pub record Took (tree : ℕ) (child : Row → Bool) (db next : Trees) : Type 0 where
+    pub rows : next tree ≡ filter (λ r. not (child r)) (db tree)
+    pub others : Others tree db next
 
--- a step that gives trees was not refused, and its rows could be stored
-pub stepped : (Later : Trees → List Work → End → Type 0) (db : Trees) (edit : Edit) (depth : ℕ)
-    (below : List Work) (next : Trees) → Goes desk_schema Enforced Later db edit depth below (Ok next)
-    → (mid : Trees) × Applies desk_schema Enforced db edit mid
-    × Later mid (below ++ works desk_schema Enforced depth edit.table.tree (taken_by db edit) edit.news)
-    (Ok next)
-stepped Later db edit depth below next (inl refused) = absurd (let e = refused.2 in cc)
-stepped Later db edit depth below next (inr (inl big)) = absurd (let e = big.3 in cc)
-stepped Later db edit depth below next (inr (inr went)) = went
-
-module _ (n : ℕ) (db : Trees) (table : Table) (moves : List (Row × Row)) (below : List Work)
-    (next : Trees)
-    (quiet : IsQuiet table.tree)
-    (num : AreNumbered (db table.tree)) where
-  abbrev is_child : Row → Bool
-  is_child r = list_any (is_child_of (delete_on table moves) r) moves
-
-  gone : (ids : List ℤ) → AreChildren db (delete_on table moves) ids
-      → ActsOn desk_schema Enforced (Leads desk_schema Enforced n) db (delete_on table moves) below
+  -- a step that gives trees was not refused, and its rows could be stored
+  pub stepped : (Later : Trees → List Work → End → Type 0) (db : Trees) (edit : Edit) (depth : ℕ)
+      (below : List Work) (next : Trees) → Goes (desk_with beside) Enforced Later db edit depth below (Ok next)
+      → (mid : Trees) × Applies (desk_with beside) Enforced db edit mid
+      × Later mid (below ++ works (desk_with beside) Enforced depth edit.table.tree (taken_by db edit) edit.news)
       (Ok next)
-      ids
-      → (mid : Trees) × Took table.tree is_child db mid
-      × Leads desk_schema Enforced n mid below (Ok next)
-  gone [] are h = (
-    db,
-    record {
-      rows = children_go db (delete_on table moves) [] are num;
-      others = (λ _. refl, (λ _. refl, (λ _. refl, (λ _. refl, (λ _. refl, (λ _. refl, tt))))));
-    },
-    h,
-  )
-  gone (id ∷ ids) are h =
-      let step = stepped (Leads desk_schema Enforced n) db
-      (action_edit db (delete_on table moves) (id ∷ ids))
-      1 below next h in
-      let rest : below ++ works desk_schema Enforced 1 table.tree
-      (taken_by db (action_edit db (delete_on table moves) (id ∷ ids))) [] ≡ below =
-      ap (λ ws. below ++ ws) (quiet 1 (taken_by db (action_edit db (delete_on table moves) (id ∷ ids))))
-      ∙ append-nil below in (
-        step.0,
-        record {
-          rows = step.1.rows ∙ children_go db (delete_on table moves) (id ∷ ids) are num;
-          others = step.1.tables;
-        },
-        subst (λ ws. Leads desk_schema Enforced n step.0 ws (Ok next)) rest
-            step.2,
-      )
+  stepped Later db edit depth below next (inl refused) = absurd (let e = refused.2 in cc)
+  stepped Later db edit depth below next (inr (inl big)) = absurd (let e = big.3 in cc)
+  stepped Later db edit depth below next (inr (inr went)) = went
 
-  pub acted : Acts desk_schema Enforced (Leads desk_schema Enforced n) db (delete_on table moves) below
-      (Ok next) → (mid : Trees) × Took table.tree is_child db mid
-      × Leads desk_schema Enforced n mid below (Ok next)
-  acted h = gone h.0 h.1 h.2
+  module _ (n : ℕ) (db : Trees) (table : Table) (moves : List (Row × Row)) (below : List Work)
+      (next : Trees)
+      (quiet : (IsQuiet away) table.tree)
+      (num : AreNumbered (db table.tree)) where
+    abbrev is_child : Row → Bool
+    is_child r = list_any (is_child_of (delete_on table moves) r) moves
+
+    gone : (ids : List ℤ) → AreChildren db (delete_on table moves) ids
+        → ActsOn (desk_with beside) Enforced (Leads (desk_with beside) Enforced n) db (delete_on table moves) below
+        (Ok next)
+        ids
+        → (mid : Trees) × Took table.tree is_child db mid
+        × Leads (desk_with beside) Enforced n mid below (Ok next)
+    gone [] are h = (
+      db,
+      record {
+        rows = children_go db (delete_on table moves) [] are num;
+        others = all_from (λ (t : Table). t.tree ≢ table.tree → db t.tree ≡ db t.tree) (desk_with beside).tables
+            (λ t known other. refl);
+      },
+      h,
+    )
+    gone (id ∷ ids) are h =
+        let step = stepped (Leads (desk_with beside) Enforced n) db
+        (action_edit db (delete_on table moves) (id ∷ ids))
+        1 below next h in
+        let rest : below ++ works (desk_with beside) Enforced 1 table.tree
+        (taken_by db (action_edit db (delete_on table moves) (id ∷ ids))) [] ≡ below =
+        ap (λ ws. below ++ ws) (quiet 1 (taken_by db (action_edit db (delete_on table moves) (id ∷ ids))))
+        ∙ append-nil below in (
+          step.0,
+          record {
+            rows = step.1.rows ∙ children_go db (delete_on table moves) (id ∷ ids) are num;
+            others = step.1.tables;
+          },
+          subst (λ ws. Leads (desk_with beside) Enforced n step.0 ws (Ok next)) rest
+              step.2,
+        )
+
+    pub acted : Acts (desk_with beside) Enforced (Leads (desk_with beside) Enforced n) db (delete_on table moves) below
+        (Ok next) → (mid : Trees) × Took table.tree is_child db mid
+        × Leads (desk_with beside) Enforced n mid below (Ok next)
+    acted h = gone h.0 h.1 h.2
 
 -- no list ends before its last element
 pub none_last : {X : Type 0} (before : List X) (a : X) → ¬ (before ++ a ∷ [] ≡ [])
@@ -397,99 +419,107 @@ last_is (x ∷ before) (y ∷ below) a w e =
     let more = last_is before below a w rest in
     (ap₂ (λ z zs. z ∷ zs) first more.0, more.1)
 
-module _ (moves : List (Row × Row)) where
-  abbrev pub child_of : Table → Row → Bool
-  child_of table r = list_any (is_child_of (delete_on table moves) r) moves
+module _ {beside : Beside} (away : StandsApart beside) where
+  module _ (moves : List (Row × Row)) where
+    abbrev pub child_of : Table → Row → Bool
+    child_of table r = list_any (is_child_of (delete_on table moves) r) moves
 
-  -- the children go from one tree
-  abbrev pub Lost : Table → Trees → Trees → Type 0
-  Lost table db next = next table.tree ≡ filter (λ r. not (child_of table r)) (db table.tree)
+    -- the children go from one tree
+    abbrev pub Lost : Table → Trees → Trees → Type 0
+    Lost table db next = next table.tree ≡ filter (λ r. not (child_of table r)) (db table.tree)
 
-  -- what all actions of a plan's DELETE leave
-  pub record HaveGone (db next : Trees) : Type 0 where
-    pub operators : next 0 ≡ db 0
-    pub plans : next 2 ≡ db 2
-    pub old_volumes : Lost old_volumes_at db next
-    pub old_spans : Lost old_spans_at db next
-    pub volumes : Lost volumes_at db next
-    pub spans : Lost spans_at db next
+    -- what all actions of a plan's DELETE leave
+    pub record HaveGone (db next : Trees) : Type 0 where
+      pub operators : next 0 ≡ db 0
+      pub plans : next 2 ≡ db 2
+      pub old_volumes : Lost old_volumes_at db next
+      pub old_spans : Lost old_spans_at db next
+      pub volumes : Lost volumes_at db next
+      pub spans : Lost spans_at db next
+      pub rest : (t : Table) → Has beside.tables t → next t.tree ≡ db t.tree
 
-  -- and those alone that are on version 1's tables
-  record OldGone (db next : Trees) : Type 0 where
-    operators : next 0 ≡ db 0
-    plans : next 2 ≡ db 2
-    old_volumes : Lost old_volumes_at db next
-    old_spans : Lost old_spans_at db next
-    volumes : next 9 ≡ db 9
-    spans : next 11 ≡ db 11
+    -- and those alone that are on version 1's tables
+    record OldGone (db next : Trees) : Type 0 where
+      operators : next 0 ≡ db 0
+      plans : next 2 ≡ db 2
+      old_volumes : Lost old_volumes_at db next
+      old_spans : Lost old_spans_at db next
+      volumes : next 9 ≡ db 9
+      spans : next 11 ≡ db 11
+      rest : (t : Table) → Has beside.tables t → next t.tree ≡ db t.tree
 
-module _ (moves : List (Row × Row)) (next : Trees) where
-  pub ended : (n : ℕ) (db : Trees) → Leads desk_schema Enforced n db [] (Ok next) → db ≡ next
-  ended zero db h = sym (same_value h.1)
-  ended (suc n) db h = absurd (none h.0 h.1 h.2)
-    where
-      none : (below : List Work) (w : Work) → [] ≡ below ++ w ∷ [] → ⊥
-      none [] w e = cc
-      none (x ∷ below) w e = cc
+  module _ (moves : List (Row × Row)) (next : Trees) where
+    pub ended : (n : ℕ) (db : Trees) → Leads (desk_with beside) Enforced n db [] (Ok next) → db ≡ next
+    ended zero db h = sym (same_value h.1)
+    ended (suc n) db h = absurd (none h.0 h.1 h.2)
+      where
+        none : (below : List Work) (w : Work) → [] ≡ below ++ w ∷ [] → ⊥
+        none [] w e = cc
+        none (x ∷ below) w e = cc
 
-  -- an action takes its children, and leads to those before it
-  one_goes : (table : Table) → IsQuiet table.tree → (before : List Work) (n : ℕ) (db : Trees)
-      → AreNumbered (db table.tree)
-      → Leads desk_schema Enforced n db (before ++ delete_on table moves ∷ []) (Ok next)
-      → (left : ℕ) × (mid : Trees) × Took table.tree (child_of moves table) db mid
-      × Leads desk_schema Enforced left mid before (Ok next)
-  one_goes table quiet before zero db num h = absurd (none_last before (delete_on table moves) h.0)
-  one_goes table quiet before (suc n) db num h =
-      let last = last_is before h.0 (delete_on table moves) h.1 h.2 in
-      let acts = subst (λ ws. Acts desk_schema Enforced (Leads desk_schema Enforced n) db
-      (delete_on table moves) ws (Ok next)) last.0
-      (subst (λ w. Acts desk_schema Enforced (Leads desk_schema Enforced n) db w h.0 (Ok next)) last.1
-      h.3) in
-      let done = acted n db table moves before next quiet num acts in
-      (n, done.0, done.1, done.2)
+    -- an action takes its children, and leads to those before it
+    one_goes : (table : Table) → (IsQuiet away) table.tree → (before : List Work) (n : ℕ) (db : Trees)
+        → AreNumbered (db table.tree)
+        → Leads (desk_with beside) Enforced n db (before ++ delete_on table moves ∷ []) (Ok next)
+        → (left : ℕ) × (mid : Trees) × (Took away) table.tree (child_of moves table) db mid
+        × Leads (desk_with beside) Enforced left mid before (Ok next)
+    one_goes table quiet before zero db num h = absurd (none_last before (delete_on table moves) h.0)
+    one_goes table quiet before (suc n) db num h =
+        let last = last_is before h.0 (delete_on table moves) h.1 h.2 in
+        let acts = subst (λ ws. Acts (desk_with beside) Enforced (Leads (desk_with beside) Enforced n) db
+        (delete_on table moves) ws (Ok next)) last.0
+        (subst (λ w. Acts (desk_with beside) Enforced (Leads (desk_with beside) Enforced n) db w h.0 (Ok next)) last.1
+        h.3) in
+        let done = (acted away) n db table moves before next quiet num acts in
+        (n, done.0, done.1, done.2)
 
-  old_go : (n : ℕ) (db : Trees) → AreNumbered (db 4) → AreNumbered (db 6)
-      → Leads desk_schema Enforced n db
-      (delete_on old_volumes_at moves ∷ delete_on old_spans_at moves ∷ []) (Ok next)
-      → OldGone moves db next
-  old_go n db four six h =
-      let first = one_goes old_spans_at old_span_works (delete_on old_volumes_at moves ∷ []) n db six h in
-      let a = first.2.others in
-      let four_is : first.1 4 ≡ db 4 = a.1.1.0 (unequal _ _ refl) in
-      let last = one_goes old_volumes_at old_volume_works [] first.0 first.1
-      (subst AreNumbered (sym four_is) four) first.3 in
-      let b = last.2.others in
-      subst (OldGone moves db) (ended last.0 last.1 last.3) (record {
-        operators = b.0 (unequal _ _ refl) ∙ a.0 (unequal _ _ refl);
-        plans = b.1.0 (unequal _ _ refl) ∙ a.1.0 (unequal _ _ refl);
-        old_volumes = last.2.rows ∙ ap (filter (λ r. not (child_of moves old_volumes_at r))) four_is;
-        old_spans = b.1.1.1.0 (unequal _ _ refl) ∙ first.2.rows;
-        volumes = b.1.1.1.1.0 (unequal _ _ refl) ∙ a.1.1.1.1.0 (unequal _ _ refl);
-        spans = b.1.1.1.1.1.0 (unequal _ _ refl) ∙ a.1.1.1.1.1.0 (unequal _ _ refl);
-      })
+    old_go : (n : ℕ) (db : Trees) → AreNumbered (db 4) → AreNumbered (db 6)
+        → Leads (desk_with beside) Enforced n db
+        (delete_on old_volumes_at moves ∷ delete_on old_spans_at moves ∷ []) (Ok next)
+        → OldGone moves db next
+    old_go n db four six h =
+        let first = one_goes old_spans_at (old_span_works away) (delete_on old_volumes_at moves ∷ []) n db six h in
+        let a = first.2.others in
+        let four_is : first.1 4 ≡ db 4 = a.1.1.0 (unequal _ _ refl) in
+        let last = one_goes old_volumes_at (old_volume_works away) [] first.0 first.1
+        (subst AreNumbered (sym four_is) four) first.3 in
+        let b = last.2.others in
+        subst (OldGone moves db) (ended last.0 last.1 last.3) (record {
+          operators = b.0 (unequal _ _ refl) ∙ a.0 (unequal _ _ refl);
+          plans = b.1.0 (unequal _ _ refl) ∙ a.1.0 (unequal _ _ refl);
+          old_volumes = last.2.rows ∙ ap (filter (λ r. not (child_of moves old_volumes_at r))) four_is;
+          old_spans = b.1.1.1.0 (unequal _ _ refl) ∙ first.2.rows;
+          volumes = b.1.1.1.1.0 (unequal _ _ refl) ∙ a.1.1.1.1.0 (unequal _ _ refl);
+          spans = b.1.1.1.1.1.0 (unequal _ _ refl) ∙ a.1.1.1.1.1.0 (unequal _ _ refl);
+          rest = λ t known. rest_stays away 4 (omega arith) first.1 last.1 b.1.1.1.1.1.1 t known
+              ∙ rest_stays away 6 (omega arith) db first.1 a.1.1.1.1.1.1 t known;
+        })
 
-  pub all_go : (n : ℕ) (db : Trees) → AreNumbered (db 4) → AreNumbered (db 6) → AreNumbered (db 9)
-      → AreNumbered (db 11) → Leads desk_schema Enforced n db (plan_actions moves) (Ok next)
-      → HaveGone moves db next
-  all_go n db four six nine eleven h =
-      let first = one_goes spans_at span_works (delete_on old_volumes_at moves
-      ∷ delete_on old_spans_at moves ∷ delete_on volumes_at moves ∷ []) n db eleven h in
-      let a = first.2.others in
-      let nine_is : first.1 9 ≡ db 9 = a.1.1.1.1.0 (unequal _ _ refl) in
-      let second = one_goes volumes_at volume_works (delete_on old_volumes_at moves
-      ∷ delete_on old_spans_at moves ∷ []) first.0 first.1 (subst AreNumbered (sym nine_is) nine) first.3 in
-      let b = second.2.others in
-      let four_is : second.1 4 ≡ db 4 = b.1.1.0 (unequal _ _ refl) ∙ a.1.1.0 (unequal _ _ refl) in
-      let six_is : second.1 6 ≡ db 6 = b.1.1.1.0 (unequal _ _ refl) ∙ a.1.1.1.0 (unequal _ _ refl) in
-      let rest = old_go second.0 second.1 (subst AreNumbered (sym four_is) four)
-      (subst AreNumbered (sym six_is) six) second.3 in
-      record {
-        operators = rest.operators ∙ b.0 (unequal _ _ refl) ∙ a.0 (unequal _ _ refl);
-        plans = rest.plans ∙ b.1.0 (unequal _ _ refl) ∙ a.1.0 (unequal _ _ refl);
-        old_volumes = rest.old_volumes
-            ∙ ap (filter (λ r. not (child_of moves old_volumes_at r))) four_is;
-        old_spans = rest.old_spans ∙ ap (filter (λ r. not (child_of moves old_spans_at r))) six_is;
-        volumes = rest.volumes ∙ second.2.rows
-            ∙ ap (filter (λ r. not (child_of moves volumes_at r))) nine_is;
-        spans = rest.spans ∙ b.1.1.1.1.1.0 (unequal _ _ refl) ∙ first.2.rows;
-      }
+    pub all_go : (n : ℕ) (db : Trees) → AreNumbered (db 4) → AreNumbered (db 6) → AreNumbered (db 9)
+        → AreNumbered (db 11) → Leads (desk_with beside) Enforced n db (plan_actions moves) (Ok next)
+        → HaveGone moves db next
+    all_go n db four six nine eleven h =
+        let first = one_goes spans_at (span_works away) (delete_on old_volumes_at moves
+        ∷ delete_on old_spans_at moves ∷ delete_on volumes_at moves ∷ []) n db eleven h in
+        let a = first.2.others in
+        let nine_is : first.1 9 ≡ db 9 = a.1.1.1.1.0 (unequal _ _ refl) in
+        let second = one_goes volumes_at (volume_works away) (delete_on old_volumes_at moves
+        ∷ delete_on old_spans_at moves ∷ []) first.0 first.1 (subst AreNumbered (sym nine_is) nine) first.3 in
+        let b = second.2.others in
+        let four_is : second.1 4 ≡ db 4 = b.1.1.0 (unequal _ _ refl) ∙ a.1.1.0 (unequal _ _ refl) in
+        let six_is : second.1 6 ≡ db 6 = b.1.1.1.0 (unequal _ _ refl) ∙ a.1.1.1.0 (unequal _ _ refl) in
+        let rest = old_go second.0 second.1 (subst AreNumbered (sym four_is) four)
+        (subst AreNumbered (sym six_is) six) second.3 in
+        record {
+          operators = rest.operators ∙ b.0 (unequal _ _ refl) ∙ a.0 (unequal _ _ refl);
+          plans = rest.plans ∙ b.1.0 (unequal _ _ refl) ∙ a.1.0 (unequal _ _ refl);
+          old_volumes = rest.old_volumes
+              ∙ ap (filter (λ r. not (child_of moves old_volumes_at r))) four_is;
+          old_spans = rest.old_spans ∙ ap (filter (λ r. not (child_of moves old_spans_at r))) six_is;
+          volumes = rest.volumes ∙ second.2.rows
+              ∙ ap (filter (λ r. not (child_of moves volumes_at r))) nine_is;
+          spans = rest.spans ∙ b.1.1.1.1.1.0 (unequal _ _ refl) ∙ first.2.rows;
+          rest = λ t known. rest.rest t known
+              ∙ rest_stays away 9 (omega arith) first.1 second.1 b.1.1.1.1.1.1 t known
+              ∙ rest_stays away 11 (omega arith) db first.1 a.1.1.1.1.1.1 t known;
+        }

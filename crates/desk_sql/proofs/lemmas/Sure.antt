@@ -24,7 +24,7 @@ Misfits query schema trees params = IsShown (λ (r : Row). r) (record { schema =
     (record { lets = []; body = query }) params None
 
 -- a query whose types fit, and in which nothing overflows
-never : (schema : Schema) (query : Query) (names : List (List ℕ)) (params : Row)
+pub never : (schema : Schema) (query : Query) (names : List (List ℕ)) (params : Row)
     → ((trees : Trees) → ¬ Misfits query schema trees params)
     → ((db : Trees) → ¬ QueryOverflows query (overlay db []) params)
     → NeverRefuses schema (Select (record { lets = []; body = query }) names) params

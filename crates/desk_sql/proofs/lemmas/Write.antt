@@ -32,7 +32,7 @@ use Rattle.sqlite.specs.Held.{Held, state}
 use Rattle.sqlite.specs.Listing.{understood}
 use Rattle.sqlite.proofs.Callers.{IsPlain, command_of, statement_of, runs_as, one_step}
 use Rattle.sqlite_rules.proofs.ActionLemmas.{no_works}
-use Rattle.desk_sql.specs.Schema.{Beside, IsApart, beside_of, desk_with, desk_in, table_of}
+use Rattle.desk_sql.specs.Schema.{Beside, StandsApart, beside_of, desk_with, desk_in, table_of}
 use Rattle.desk_sql.specs.Rows.{IsDesk, Tables, tables_of}
 use Rattle.desk_sql.specs.Effects.{Holds, Makes}
 use Rattle.desk_sql.specs.Statements.{IsWriting, MayCount, MayWrite, Changes, enforced}
@@ -243,7 +243,7 @@ module _ (limit : Option ℕ) (params : Row) (name : List ℕ) (cols : List Colu
   abbrev pub table_at : Table
   table_at = record (table_of name cols key refs) { tree = tree }
 
-module _ {beside : Beside} (away : IsApart beside) where
+module _ {beside : Beside} (away : StandsApart beside) where
   abbrev pub task_at : Option ℕ → Row → List ℕ → List Column → List ℕ → List Reference → ℕ → Task
   task_at limit params name cols key refs tree = record {
     limit = limit;
@@ -291,7 +291,7 @@ not_true : (a : Bool) → not a ≡ true → a ≡ false
 not_true true h = cc
 not_true false h = refl
 
-module _ {beside : Beside} (away : IsApart beside) where
+module _ {beside : Beside} (away : StandsApart beside) where
   pub adds : (name : List ℕ) (cols : List Column) (key : List ℕ) (refs : List Reference) (tree : ℕ)
       (db next : Trees) (source : Row) → Applies (desk_with beside) Enforced db
       (edit_of db (table_at None [] name cols key refs tree) [] Chosen 0 (source ∷ [])) next
