@@ -21,7 +21,7 @@ use Rattle.sqlite_schema.specs.Rules.{agree, guards, has_null, has_parent, is_he
 use Rattle.sqlite_schema.specs.declared.schema.Index.{Index}
 use Rattle.sqlite_value.specs.Keys.{plain, first_key}
 use Rattle.sqlite_tied.specs.Compute.{everything}
-use Rattle.desk_sql.specs.Schema.{desk_schema, operator_table, plan_table, volume_table, span_table, to_operator, to_plan}
+use Rattle.desk_sql.specs.Schema.{operator_table, plan_table, volume_table, span_table, to_operator, to_plan, Beside, StandsApart, desk_in, desk_with}
 use Rattle.desk_sql.specs.Rows.{IsDesk, columns, operator_row, tables_of}
 use Rattle.desk_changes.specs.RowChanges.{volume_columns, volume_row_in, volume_params, span_columns, span_row_in, plan_row_in}
 use Rattle.desk_sql.specs.Statements.{enforced}
@@ -40,6 +40,7 @@ use Rattle.desk_sql.proofs.lemmas.Cascade.{key_places}
 use Rattle.desk_changes.proofs.AddLemmas.{IsLone}
 use Rattle.desk_changes.proofs.InsertStops.{never_stops}
 use Rattle.desk_sql.proofs.lemmas.Size.{operator_stored, plan_stored, volume_stored, span_stored}
+use Rattle.desk_sql.proofs.lemmas.Beside.{unguarded}
 
 then : {a b : Value} {xs ys : Row} → a ≡ b → xs ≡ ys → a ∷ xs ≡ b ∷ ys
 then p q = ap₂ (λ x xs. x ∷ xs) p q
@@ -75,18 +76,19 @@ module _ (n : ℤ) (cells r : Row) where
   key_4 = both (equals (column r 1) (column cells 0)) (both (equals (column r 2) (column cells 1))
       (both (equals (column r 3) (column cells 2)) (both (equals (column r 4) (column cells 3)) refl)))
 
--- a parent that is shown is there
-operator_there : (db : Trees) (n : ℤ) (cells : Row) → HasKey 1 cells (tables_of db).operators
-    → has_parent desk_schema.tables db (Int n ∷ cells) to_operator ≡ true
-operator_there db n cells has = or_right (has_null (1 ∷ []) (Int n ∷ cells)) _
-    (subst (λ o. is_held db (1 ∷ []) (Int n ∷ cells) o ≡ true) (sym operator_key)
-    (shown_any _ (λ r. has_same_key 1 r cells) (columns 2) (key_1 n cells) (db 0) ∙ has))
+module _ {beside : Beside} (away : StandsApart beside) where
+  -- a parent that is shown is there
+  operator_there : (db : Trees) (n : ℤ) (cells : Row) → HasKey 1 cells (tables_of db).operators
+      → has_parent (desk_with beside).tables db (Int n ∷ cells) to_operator ≡ true
+  operator_there db n cells has = or_right (has_null (1 ∷ []) (Int n ∷ cells)) _
+      (subst (λ o. is_held db (1 ∷ []) (Int n ∷ cells) o ≡ true) (sym (operator_key away))
+      (shown_any _ (λ r. has_same_key 1 r cells) (columns 2) (key_1 n cells) (db 0) ∙ has))
 
-plan_there : (db : Trees) (n : ℤ) (cells : Row) → HasKey 2 cells (tables_of db).plans
-    → has_parent desk_schema.tables db (Int n ∷ cells) to_plan ≡ true
-plan_there db n cells has = or_right (has_null key_places (Int n ∷ cells)) _
-    (subst (λ o. is_held db key_places (Int n ∷ cells) o ≡ true) (sym plan_key)
-    (shown_any _ (λ r. has_same_key 2 r cells) (columns 5) (key_2 n cells) (db 2) ∙ has))
+  plan_there : (db : Trees) (n : ℤ) (cells : Row) → HasKey 2 cells (tables_of db).plans
+      → has_parent (desk_with beside).tables db (Int n ∷ cells) to_plan ≡ true
+  plan_there db n cells has = or_right (has_null key_places (Int n ∷ cells)) _
+      (subst (λ o. is_held db key_places (Int n ∷ cells) o ≡ true) (sym (plan_key away))
+      (shown_any _ (λ r. has_same_key 2 r cells) (columns 5) (key_2 n cells) (db 2) ∙ has))
 
 -- no key of another table
 off : {P : Type 0} (table : Table) (i is : Index) → i ≡ is → guards is table ≡ false
@@ -135,17 +137,18 @@ unfolding everything
 span_values it limit db e (inl misfit) = absurd (true≢false misfit.1)
 span_values it limit db e (inr steps) = steps
 
-plan_refers : list_all (is_key_of desk_schema) plan_table.references ≡ true
-unfolding everything
-plan_refers = refl
+module _ {beside : Beside} (away : StandsApart beside) where
+  plan_refers : list_all (is_key_of (desk_with beside)) plan_table.references ≡ true
+  unfolding everything
+  plan_refers = refl
 
-volume_refers : list_all (is_key_of desk_schema) volume_table.references ≡ true
-unfolding everything
-volume_refers = refl
+  volume_refers : list_all (is_key_of (desk_with beside)) volume_table.references ≡ true
+  unfolding everything
+  volume_refers = refl
 
-span_refers : list_all (is_key_of desk_schema) span_table.references ≡ true
-unfolding everything
-span_refers = refl
+  span_refers : list_all (is_key_of (desk_with beside)) span_table.references ≡ true
+  unfolding everything
+  span_refers = refl
 
 -- ---- each row
 
@@ -154,7 +157,7 @@ module _ (name : List ℕ) (ceiling : ℕ) (limit : Option ℕ) (old : Database)
   abbrev operator_trees : Trees
   operator_trees = old.trees
 
-  operator_lone : IsLone (at 0 operator_table) (inl refl) operator_trees (operator_row name ceiling)
+  operator_lone : (IsLone desk.schema.apart) (at 0 operator_table) (inl refl) operator_trees (operator_row name ceiling)
   operator_lone i (inl is) on =
       alone (columns 2) (λ r. has_same_key 1 r (operator_row name ceiling)) i _ is _ (operator_trees 0)
       (key_1 (next_rowid (old.trees 0)) (operator_row name ceiling)) fits.1.1
@@ -166,32 +169,33 @@ module _ (name : List ℕ) (ceiling : ℕ) (limit : Option ℕ) (old : Database)
   operator_lone i (inr (inr (inr (inr (inr (inr (inl is))))))) on = off (at 0 operator_table) i _ is refl on
   operator_lone i (inr (inr (inr (inr (inr (inr (inr (inl is)))))))) on =
       off (at 0 operator_table) i _ is refl on
-  operator_lone i (inr (inr (inr (inr (inr (inr (inr (inr none)))))))) on = absurd none
+  operator_lone i (inr (inr (inr (inr (inr (inr (inr (inr known)))))))) on =
+      absurd (true≢false (sym on ∙ unguarded desk.schema.apart (at 0 operator_table) (omega arith) i known))
 
   operator_never : (stop : Option Error)
-      → OnRows (task_at limit (operator_row name ceiling) operator_table.name operator_table.columns
+      → OnRows ((task_at desk.schema.apart) limit (operator_row name ceiling) operator_table.name operator_table.columns
       operator_table.primary operator_table.references 0) enforced None
       (Insert 0 (Values insert_operator_terms 3)) old.trees (Err stop)
       → IsAtLimit limit stop
-  operator_never = never_stops limit (operator_row name ceiling) operator_table.name operator_table.columns
+  operator_never = (never_stops desk.schema.apart) limit (operator_row name ceiling) operator_table.name operator_table.columns
       operator_table.primary operator_table.references 0 old.trees
       insert_operator_terms 3 (operator_row name ceiling) (record {
         listed = inl refl;
         refers = refl;
         one = refl;
-        sure = operator_values name ceiling limit (record { schema = desk_schema; trees = old.trees });
+        sure = operator_values name ceiling limit (record { schema = desk_in old.schema; trees = old.trees });
         casts = then refl (then (cast_int (pos ceiling)) refl);
         good = record {
           typed = λ n. refl;
           present = λ n. refl;
           checked = λ n. refl;
-          stored = operator_stored name ceiling fits.0;
+          stored = (operator_stored desk.schema.apart) name ceiling fits.0;
         };
         room = fits.1.0;
         whole = desk.operators.whole;
         lone = operator_lone;
         parents = tt;
-        obeys = subst (λ s. Obeys s old.trees) desk.schema sound.obeys;
+        obeys = subst (λ s. Obeys s old.trees) desk.schema.is sound.obeys;
       }) 0
 
 module _ (p : PlanRecord) (limit : Option ℕ) (old : Database) (desk : IsDesk old) (sound : IsDatabase old)
@@ -199,7 +203,7 @@ module _ (p : PlanRecord) (limit : Option ℕ) (old : Database) (desk : IsDesk o
   abbrev plan_trees : Trees
   plan_trees = old.trees
 
-  plan_lone : IsLone (at 2 plan_table) (inr (inl refl)) plan_trees (plan_row_in p)
+  plan_lone : (IsLone desk.schema.apart) (at 2 plan_table) (inr (inl refl)) plan_trees (plan_row_in p)
   plan_lone i (inl is) on = off (at 2 plan_table) i _ is refl on
   plan_lone i (inr (inl is)) on =
       alone (columns 5) (λ r. has_same_key 2 r (plan_row_in p)) i _ is _ (plan_trees 2)
@@ -210,31 +214,32 @@ module _ (p : PlanRecord) (limit : Option ℕ) (old : Database) (desk : IsDesk o
   plan_lone i (inr (inr (inr (inr (inr (inl is)))))) on = off (at 2 plan_table) i _ is refl on
   plan_lone i (inr (inr (inr (inr (inr (inr (inl is))))))) on = off (at 2 plan_table) i _ is refl on
   plan_lone i (inr (inr (inr (inr (inr (inr (inr (inl is)))))))) on = off (at 2 plan_table) i _ is refl on
-  plan_lone i (inr (inr (inr (inr (inr (inr (inr (inr none)))))))) on = absurd none
+  plan_lone i (inr (inr (inr (inr (inr (inr (inr (inr known)))))))) on =
+      absurd (true≢false (sym on ∙ unguarded desk.schema.apart (at 2 plan_table) (omega arith) i known))
 
   plan_never : (stop : Option Error)
-      → OnRows (task_at limit (plan_row_in p) plan_table.name plan_table.columns plan_table.primary
+      → OnRows ((task_at desk.schema.apart) limit (plan_row_in p) plan_table.name plan_table.columns plan_table.primary
       plan_table.references 2) enforced None (Insert 1 (Values insert_plan_terms 6)) old.trees (Err stop)
       → IsAtLimit limit stop
-  plan_never = never_stops limit (plan_row_in p) plan_table.name plan_table.columns plan_table.primary
+  plan_never = (never_stops desk.schema.apart) limit (plan_row_in p) plan_table.name plan_table.columns plan_table.primary
       plan_table.references 2 old.trees insert_plan_terms 6 (plan_row_in p) (record {
         listed = inr (inl refl);
-        refers = plan_refers;
+        refers = (plan_refers desk.schema.apart);
         one = refl;
-        sure = plan_values p limit (record { schema = desk_schema; trees = old.trees });
+        sure = plan_values p limit (record { schema = desk_in old.schema; trees = old.trees });
         casts = then refl (then refl (then (cast_int (pos p.priority)) (then (cast_int (pos p.usage))
             (then (cast_int (pos p.aircraft)) refl))));
         good = record {
           typed = λ n. refl;
           present = λ n. refl;
           checked = λ n. refl;
-          stored = plan_stored p.operator.now p.id.now p.priority p.usage p.aircraft fits.0 fits.1;
+          stored = (plan_stored desk.schema.apart) p.operator.now p.id.now p.priority p.usage p.aircraft fits.0 fits.1;
         };
         room = fits.2.0;
         whole = desk.plans.whole;
         lone = plan_lone;
-        parents = (operator_there plan_trees _ (plan_row_in p) fits.3, tt);
-        obeys = subst (λ s. Obeys s old.trees) desk.schema sound.obeys;
+        parents = ((operator_there desk.schema.apart) plan_trees _ (plan_row_in p) fits.3, tt);
+        obeys = subst (λ s. Obeys s old.trees) desk.schema.is sound.obeys;
       }) 1
 
 module _ (v : VolumeRecord) (limit : Option ℕ) (old : Database) (desk : IsDesk old) (sound : IsDatabase old)
@@ -242,7 +247,7 @@ module _ (v : VolumeRecord) (limit : Option ℕ) (old : Database) (desk : IsDesk
   abbrev volume_trees : Trees
   volume_trees = old.trees
 
-  volume_lone : IsLone (at 9 volume_table) (inr (inr (inr (inr (inl refl))))) volume_trees
+  volume_lone : (IsLone desk.schema.apart) (at 9 volume_table) (inr (inr (inr (inr (inl refl))))) volume_trees
       (volume_params v)
   volume_lone i (inl is) on = off (at 9 volume_table) i _ is refl on
   volume_lone i (inr (inl is)) on = off (at 9 volume_table) i _ is refl on
@@ -254,33 +259,34 @@ module _ (v : VolumeRecord) (limit : Option ℕ) (old : Database) (desk : IsDesk
       (key_3 (next_rowid (old.trees 9)) (volume_params v)) fits.4.1
   volume_lone i (inr (inr (inr (inr (inr (inr (inl is))))))) on = off (at 9 volume_table) i _ is refl on
   volume_lone i (inr (inr (inr (inr (inr (inr (inr (inl is)))))))) on = off (at 9 volume_table) i _ is refl on
-  volume_lone i (inr (inr (inr (inr (inr (inr (inr (inr none)))))))) on = absurd none
+  volume_lone i (inr (inr (inr (inr (inr (inr (inr (inr known)))))))) on =
+      absurd (true≢false (sym on ∙ unguarded desk.schema.apart (at 9 volume_table) (omega arith) i known))
 
   volume_never : (stop : Option Error)
-      → OnRows (task_at limit (volume_params v) volume_table.name volume_table.columns volume_table.primary
+      → OnRows ((task_at desk.schema.apart) limit (volume_params v) volume_table.name volume_table.columns volume_table.primary
       volume_table.references 9) enforced None (Insert 4 (Values insert_volume_terms 10)) old.trees
       (Err stop)
       → IsAtLimit limit stop
-  volume_never = never_stops limit (volume_params v) volume_table.name volume_table.columns
+  volume_never = (never_stops desk.schema.apart) limit (volume_params v) volume_table.name volume_table.columns
       volume_table.primary volume_table.references 9 old.trees insert_volume_terms 10 (volume_params v)
       (record {
         listed = inr (inr (inr (inr (inl refl))));
-        refers = volume_refers;
+        refers = (volume_refers desk.schema.apart);
         one = refl;
-        sure = volume_values v limit (record { schema = desk_schema; trees = old.trees });
+        sure = volume_values v limit (record { schema = desk_in old.schema; trees = old.trees });
         casts = then refl (then refl (then (cast_int (pos v.place)) (then (cast_int v.lower)
             (then (cast_int v.upper) (then (cast_int v.start) (then (cast_int v.stop) refl))))));
         good = record {
           typed = λ n. refl;
           present = λ n. refl;
           checked = λ n. refl;
-          stored = volume_stored (volume_columns v) v.canon.now fits.0 fits.1 fits.2 fits.3;
+          stored = (volume_stored desk.schema.apart) (volume_columns v) v.canon.now fits.0 fits.1 fits.2 fits.3;
         };
         room = fits.4.0;
         whole = desk.volumes.whole;
         lone = volume_lone;
-        parents = (plan_there volume_trees _ (volume_params v) fits.5, tt);
-        obeys = subst (λ s. Obeys s old.trees) desk.schema sound.obeys;
+        parents = ((plan_there desk.schema.apart) volume_trees _ (volume_params v) fits.5, tt);
+        obeys = subst (λ s. Obeys s old.trees) desk.schema.is sound.obeys;
       }) 4
 
 module _ (s : SpanRecord) (limit : Option ℕ) (old : Database) (desk : IsDesk old) (sound : IsDatabase old)
@@ -288,7 +294,7 @@ module _ (s : SpanRecord) (limit : Option ℕ) (old : Database) (desk : IsDesk o
   abbrev span_trees : Trees
   span_trees = old.trees
 
-  span_lone : IsLone (at 11 span_table) (inr (inr (inr (inr (inr (inl refl)))))) span_trees (span_row_in s)
+  span_lone : (IsLone desk.schema.apart) (at 11 span_table) (inr (inr (inr (inr (inr (inl refl)))))) span_trees (span_row_in s)
   span_lone i (inl is) on = off (at 11 span_table) i _ is refl on
   span_lone i (inr (inl is)) on = off (at 11 span_table) i _ is refl on
   span_lone i (inr (inr (inl is))) on = off (at 11 span_table) i _ is refl on
@@ -299,18 +305,19 @@ module _ (s : SpanRecord) (limit : Option ℕ) (old : Database) (desk : IsDesk o
       alone (columns 10) (λ r. has_same_key 4 r (span_row_in s)) i _ is _ (span_trees 11)
       (key_4 (next_rowid (old.trees 11)) (span_row_in s)) fits.2.1
   span_lone i (inr (inr (inr (inr (inr (inr (inr (inl is)))))))) on = off (at 11 span_table) i _ is refl on
-  span_lone i (inr (inr (inr (inr (inr (inr (inr (inr none)))))))) on = absurd none
+  span_lone i (inr (inr (inr (inr (inr (inr (inr (inr known)))))))) on =
+      absurd (true≢false (sym on ∙ unguarded desk.schema.apart (at 11 span_table) (omega arith) i known))
 
   span_never : (stop : Option Error)
-      → OnRows (task_at limit (span_row_in s) span_table.name span_table.columns span_table.primary
+      → OnRows ((task_at desk.schema.apart) limit (span_row_in s) span_table.name span_table.columns span_table.primary
       span_table.references 11) enforced None (Insert 5 (Values insert_span_terms 11)) old.trees (Err stop)
       → IsAtLimit limit stop
-  span_never = never_stops limit (span_row_in s) span_table.name span_table.columns span_table.primary
+  span_never = (never_stops desk.schema.apart) limit (span_row_in s) span_table.name span_table.columns span_table.primary
       span_table.references 11 old.trees insert_span_terms 11 (span_row_in s) (record {
         listed = inr (inr (inr (inr (inr (inl refl)))));
-        refers = span_refers;
+        refers = (span_refers desk.schema.apart);
         one = refl;
-        sure = span_values s limit (record { schema = desk_schema; trees = old.trees });
+        sure = span_values s limit (record { schema = desk_in old.schema; trees = old.trees });
         casts = then refl (then refl (then (cast_int (pos s.place)) (then (cast_int s.first)
             (then (cast_int s.last) (then (cast_int s.lower) (then (cast_int s.upper) (then (cast_int s.start)
             (then (cast_int s.stop) (then (cast_int (pos s.priority)) refl)))))))));
@@ -318,13 +325,13 @@ module _ (s : SpanRecord) (limit : Option ℕ) (old : Database) (desk : IsDesk o
           typed = λ n. refl;
           present = λ n. refl;
           checked = λ n. refl;
-          stored = span_stored (span_columns s) fits.0 fits.1;
+          stored = (span_stored desk.schema.apart) (span_columns s) fits.0 fits.1;
         };
         room = fits.2.0;
         whole = desk.spans.whole;
         lone = span_lone;
-        parents = (plan_there span_trees _ (span_row_in s) fits.3, tt);
-        obeys = subst (λ s. Obeys s old.trees) desk.schema sound.obeys;
+        parents = ((plan_there desk.schema.apart) span_trees _ (span_row_in s) fits.3, tt);
+        obeys = subst (λ s. Obeys s old.trees) desk.schema.is sound.obeys;
       }) 5
 
 -- ---- the texts
@@ -333,24 +340,24 @@ pub insert_operator_sure : (name : List ℕ) (ceiling : ℕ) → IsSureChange in
     (operator_row name ceiling) (FitsOperator name (operator_row name ceiling))
 unfolding understood everything
 insert_operator_sure name ceiling =
-    sure_change insert_operator_text (operator_row name ceiling) _ _ insert_operator_is tt refl (omega arith)
+    sure_change insert_operator_text (operator_row name ceiling) _ _ insert_operator_is tt (λ beside. refl) (λ beside. omega arith)
     (λ limit db stop desk sound fits h. operator_never name ceiling limit db desk sound fits stop h)
 
 pub insert_plan_sure : (p : PlanRecord) → IsSureChange insert_plan_text (plan_row_in p)
     (FitsPlan p.operator.now p.id.now (plan_row_in p))
 unfolding understood everything
-insert_plan_sure p = sure_change insert_plan_text (plan_row_in p) _ _ insert_plan_is tt refl (omega arith)
+insert_plan_sure p = sure_change insert_plan_text (plan_row_in p) _ _ insert_plan_is tt (λ beside. refl) (λ beside. omega arith)
     (λ limit db stop desk sound fits h. plan_never p limit db desk sound fits stop h)
 
 pub insert_volume_sure : (v : VolumeRecord) → IsSureChange insert_volume_text (volume_params v)
     (FitsVolume v.operator.now v.id.now v.asked.now v.canon.now (volume_row_in v))
 unfolding understood everything
-insert_volume_sure v = sure_change insert_volume_text (volume_params v) _ _ insert_volume_is tt refl
-    (omega arith)
+insert_volume_sure v = sure_change insert_volume_text (volume_params v) _ _ insert_volume_is tt (λ beside. refl)
+    (λ beside. omega arith)
     (λ limit db stop desk sound fits h. volume_never v limit db desk sound fits stop h)
 
 pub insert_span_sure : (s : SpanRecord) → IsSureChange insert_span_text (span_row_in s)
     (FitsSpan s.operator.now s.id.now (span_row_in s))
 unfolding understood everything
-insert_span_sure s = sure_change insert_span_text (span_row_in s) _ _ insert_span_is tt refl (omega arith)
+insert_span_sure s = sure_change insert_span_text (span_row_in s) _ _ insert_span_is tt (λ beside. refl) (λ beside. omega arith)
     (λ limit db stop desk sound fits h. span_never s limit db desk sound fits stop h)

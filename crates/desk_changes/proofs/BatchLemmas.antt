@@ -17,6 +17,7 @@ use Rattle.desk_sql.proofs.lemmas.Rowid.{refusal_on}
 use Rattle.desk_sql.proofs.lemmas.Leaving.{remembers_itself, remembers_survived, remembers_then}
 use Rattle.desk_changes.specs.RowChanges.{AddsVolumes, AddsSpans}
 use Rattle.desk_sql.specs.Queries.{IsChanged}
+use Rattle.desk_sql.specs.Schema.{beside_of}
 
 pub record HasAdded {S : Type 0} (g : Ghosts S) (old now : Held S)
     (Changes : Tables → Tables → Type 0) : Type
@@ -34,6 +35,7 @@ begins g old Changes none under = record {
     begun = h.1;
     committed = refl;
     desk = h.2;
+    beside = refl;
     sound = h.3;
     changed = none (tables_of (state g old).now.trees);
   };
@@ -55,6 +57,7 @@ goes_on g old mid new Before Step After joins so_far turn step = record {
         begun = last.begun;
         committed = last.committed ∙ first.committed;
         desk = last.desk;
+        beside = last.beside ∙ first.beside;
         sound = last.sound;
         changed = joins (tables_of (state g old).now.trees) (tables_of (state g mid).now.trees)
             (tables_of (state g new).now.trees) first.changed last.changed;
@@ -76,6 +79,7 @@ begins_prepared g old now Changes none ready sound begun same last = record {
         begun = subst (λ b. IsTrue b) (sym h.mode) begun;
         committed = h.committed_is;
         desk = subst IsDesk (sym h.now_is) (ready (omega (arith, last.clean, clean)) h.was_open);
+        beside = ap (λ (db : Database). beside_of db.schema) h.now_is;
         sound = subst IsDatabase (sym h.now_is) (sound (omega (arith, last.clean, clean)) h.was_open);
         changed = subst (λ (db : Database). Changes (tables_of (state g old).now.trees)
             (tables_of db.trees)) (sym h.now_is) (none (tables_of (state g old).now.trees));

@@ -18,9 +18,9 @@ use Rattle.sqlite_rules.specs.Action.{Writes}
 use Rattle.sqlite_schema.specs.declared.schema.Column.{Column}
 use Rattle.sqlite_schema.specs.declared.schema.Reference.{Reference}
 use Rattle.sqlite_schema.specs.declared.schema.Keys.TheVariants.{Enforced}
-use Rattle.desk_sql.specs.Schema.{desk_schema}
 use Rattle.desk_sql.proofs.lemmas.QueryTexts.{query_of}
 use Rattle.desk_sql.proofs.lemmas.Write.{went, same_value, table_at, task_at}
+use Rattle.desk_sql.specs.Schema.{Beside, StandsApart, desk_with}
 
 -- the rows that an answer shows
 pub answer_shows : (from : Join) (terms project : List Term) (db : Trees) (params : Row)
@@ -58,38 +58,39 @@ picked env terms project show wanted shown passes (r ∷ rows) =
     go true false same more = cc
     go false true same more = cc
 
-module _ (limit : Option ℕ) (params : Row) (name : List ℕ) (cols : List Column) (key : List ℕ)
-    (refs : List Reference) (tree : ℕ) (db : Trees) where
-  abbrev pub delete_edit : List Row → Edit
-  delete_edit found = edit_of db (table_at limit params name cols key refs tree) (ids_of found) Given 0
-      []
+module _ {beside : Beside} (away : StandsApart beside) where
+  module _ (limit : Option ℕ) (params : Row) (name : List ℕ) (cols : List Column) (key : List ℕ)
+      (refs : List Reference) (tree : ℕ) (db : Trees) where
+    abbrev pub delete_edit : List Row → Edit
+    delete_edit found = edit_of db (table_at limit params name cols key refs tree) (ids_of found) Given 0
+        []
 
-  -- the rows that a DELETE finds are taken out
-  pub record Finds (wanted : Row → Bool) (next : Trees) : Type 0 where
-    pub found : List Row
-    pub are : IsPermutation (map (λ r. rowid r ∷ []) (filter wanted (db tree))) found
-    pub writes : Writes desk_schema Enforced db (delete_edit found) (Ok next)
+    -- the rows that a DELETE finds are taken out
+    pub record Finds (wanted : Row → Bool) (next : Trees) : Type 0 where
+      pub found : List Row
+      pub are : IsPermutation (map (λ r. rowid r ∷ []) (filter wanted (db tree))) found
+      pub writes : Writes (desk_with beside) Enforced db (delete_edit found) (Ok next)
 
-  pub delete_finds : (terms : List Term) (wanted : Row → Bool) (w : Written) → overlay db [] tree
-      ≡ db tree
-      → ((r : Row) → list_all (holds (params ∷ r ∷ [])) terms ≡ wanted r)
-      → Deletes (task_at limit params name cols key refs tree)
-      (record { lets = []; body = query_of (inner tree end) terms (col 1 0 ∷ []) [] }) db (Ok w)
-      → Finds wanted w.trees
-  delete_finds terms wanted w same passes h =
-      let asked = went h in
-      let done = went asked.2 in
-      let shown = answer_shows (inner tree end) terms (col 1 0 ∷ []) (overlay db []) params asked.0
-      (asked.1.answer Null) in
-      let rows = subst (λ rows. map (eval_all (col 1 0 ∷ []))
-      (flat_map (λ r. cond (list_all (holds (params ∷ r ∷ [])) terms) ((params ∷ r ∷ []) ∷ []) []) rows)
-      ≡ map (λ r. rowid r ∷ []) (filter wanted (db tree))) (sym same)
-      (picked (λ r. params ∷ r ∷ []) terms (col 1 0 ∷ []) (λ r. rowid r ∷ []) wanted (λ r. refl) passes
-      (db tree)) in
-      record {
-        found = asked.0;
-        are = subst (λ xs. IsPermutation xs asked.0) rows shown;
-        writes = subst (λ (next : Trees). Writes desk_schema Enforced db (delete_edit asked.0)
-            (Ok next))
-            (sym (ap (λ (it : Written). it.trees) (same_value done.2))) done.1;
-      }
+    pub delete_finds : (terms : List Term) (wanted : Row → Bool) (w : Written) → overlay db [] tree
+        ≡ db tree
+        → ((r : Row) → list_all (holds (params ∷ r ∷ [])) terms ≡ wanted r)
+        → Deletes ((task_at away) limit params name cols key refs tree)
+        (record { lets = []; body = query_of (inner tree end) terms (col 1 0 ∷ []) [] }) db (Ok w)
+        → Finds wanted w.trees
+    delete_finds terms wanted w same passes h =
+        let asked = went h in
+        let done = went asked.2 in
+        let shown = answer_shows (inner tree end) terms (col 1 0 ∷ []) (overlay db []) params asked.0
+        (asked.1.answer Null) in
+        let rows = subst (λ rows. map (eval_all (col 1 0 ∷ []))
+        (flat_map (λ r. cond (list_all (holds (params ∷ r ∷ [])) terms) ((params ∷ r ∷ []) ∷ []) []) rows)
+        ≡ map (λ r. rowid r ∷ []) (filter wanted (db tree))) (sym same)
+        (picked (λ r. params ∷ r ∷ []) terms (col 1 0 ∷ []) (λ r. rowid r ∷ []) wanted (λ r. refl) passes
+        (db tree)) in
+        record {
+          found = asked.0;
+          are = subst (λ xs. IsPermutation xs asked.0) rows shown;
+          writes = subst (λ (next : Trees). Writes (desk_with beside) Enforced db (delete_edit asked.0)
+              (Ok next))
+              (sym (ap (λ (it : Written). it.trees) (same_value done.2))) done.1;
+        }

@@ -29,9 +29,9 @@ use Rattle.sqlite_schema.specs.declared.schema.Constraint.TheVariants.{Datatype,
 use Rattle.sqlite_schema.specs.declared.schema.Keys.TheVariants.{Enforced}
 use Rattle.sqlite_schema.specs.declared.schema.Schema.{Schema}
 use Rattle.sqlite_schema.specs.declared.program.Program.{Program}
-use Rattle.desk_sql.specs.Schema.{desk_schema}
 use Rattle.desk_sql.specs.Statements.{enforced}
 use Rattle.desk_sql.specs.Changing.{IsAtLimit}
+use Rattle.desk_sql.specs.Schema.{Beside, StandsApart, desk_with}
 
 pub same_stop : {A : Type 0} {a b : Option Error} → ◌≡◌ {A = Result A (Option Error)} (Err a) (Err b)
     → a ≡ b
@@ -73,65 +73,66 @@ unique_fewer schema db next were keeps = keeps_from Unique schema next (λ t row
     (keeps_at Unique schema db t row keeps known (were t row known there)) k))
     (and_from _ _ parts.0 (some_from _ (db t.tree) other.0 (were t other.0 known other.1) other.2))))))
 
--- each reference to the table points to a key
-abbrev pub IsReferredTo : Table → Type 0
-IsReferredTo table =
-    list_all (λ (t : Table). list_all (is_key_if_to desk_schema table) t.references) desk_schema.tables
-    ≡ true
+module _ {beside : Beside} (away : StandsApart beside) where
+  -- each reference to the table points to a key
+  abbrev pub IsReferredTo : Table → Type 0
+  IsReferredTo table =
+      list_all (λ (t : Table). list_all (is_key_if_to (desk_with beside) table) t.references) (desk_with beside).tables
+      ≡ true
 
-module _ (table : Table) (fit : IsReferredTo table) (db : Trees) (gone : List ℤ)
-    (keeps : Keeps Unique desk_schema db) where
-  abbrev out : Edit
-  out = edit_of db table gone Given 0 []
+  module _ (table : Table) (fit : IsReferredTo table) (db : Trees) (gone : List ℤ)
+      (keeps : Keeps Unique (desk_with beside) db) where
+    abbrev out : Edit
+    out = edit_of db table gone Given 0 []
 
-  were_there : (t : Table) (row : Row)
-      → Has (with_tree db table.tree (without_all (db table.tree) gone) t.tree) row → Has (db t.tree) row
-  were_there t row there = elim (cases_Bool (t.tree == table.tree)) [
-    | inl is ↦ subst (λ n. Has (db n) row) (sym (eqb-true t.tree table.tree is))
-        (without_all_has gone (db table.tree) row (rw is at there))
-    | inr other ↦ rw other at there
-  ]
+    were_there : (t : Table) (row : Row)
+        → Has (with_tree db table.tree (without_all (db table.tree) gone) t.tree) row → Has (db t.tree) row
+    were_there t row there = elim (cases_Bool (t.tree == table.tree)) [
+      | inl is ↦ subst (λ n. Has (db n) row) (sym (eqb-true t.tree table.tree is))
+          (without_all_has gone (db table.tree) row (rw is at there))
+      | inr other ↦ rw other at there
+    ]
 
-  not_refused : (why : Refusal) → ¬ IsRefused desk_schema Enforced db out why
-  not_refused (Violates Datatype) h = cc
-  not_refused (Violates NotNull) h = cc
-  not_refused (Violates Check) h = cc
-  not_refused (Violates PrimaryKey) h = cc
-  not_refused (Violates Unique) h = h (unique_fewer desk_schema db _ (λ t row known. were_there t row) keeps)
-  not_refused (Violates ForeignKey) h = h
-  not_refused Mismatch h = cc
-  not_refused NoRowid h = cc
-  not_refused BadReference h = both_ways _ h (or_right _ _ fit)
-  not_refused TooDeep h = h
+    not_refused : (why : Refusal) → ¬ IsRefused (desk_with beside) Enforced db out why
+    not_refused (Violates Datatype) h = cc
+    not_refused (Violates NotNull) h = cc
+    not_refused (Violates Check) h = cc
+    not_refused (Violates PrimaryKey) h = cc
+    not_refused (Violates Unique) h = h (unique_fewer (desk_with beside) db _ (λ t row known. were_there t row) keeps)
+    not_refused (Violates ForeignKey) h = h
+    not_refused Mismatch h = cc
+    not_refused NoRowid h = cc
+    not_refused BadReference h = both_ways _ h (or_right _ _ fit)
+    not_refused TooDeep h = h
 
-  -- a step that takes rows out is made
-  pub taken_out : (Later : Trees → List Work → End → Type 0) (depth : ℕ) (below : List Work)
-      (why : Option Refusal) → Goes desk_schema Enforced Later db out depth below (Err why)
-      → (mid : Trees) × Applies desk_schema Enforced db out mid
-      × Later mid (below ++ works desk_schema Enforced depth table.tree (taken_by db out) []) (Err why)
-  taken_out Later depth below why (inl (reason, refused, is)) = absurd (not_refused reason refused)
-  taken_out Later depth below why (inr (inl big)) = absurd big.1
-  taken_out Later depth below why (inr (inr went)) = went
+    -- a step that takes rows out is made
+    pub taken_out : (Later : Trees → List Work → End → Type 0) (depth : ℕ) (below : List Work)
+        (why : Option Refusal) → Goes (desk_with beside) Enforced Later db out depth below (Err why)
+        → (mid : Trees) × Applies (desk_with beside) Enforced db out mid
+        × Later mid (below ++ works (desk_with beside) Enforced depth table.tree (taken_by db out) []) (Err why)
+    taken_out Later depth below why (inl (reason, refused, is)) = absurd (not_refused reason refused)
+    taken_out Later depth below why (inr (inl big)) = absurd big.1
+    taken_out Later depth below why (inr (inr went)) = went
 
-pub never_ends : (n : ℕ) (db : Trees) (why : Option Refusal)
-    → ¬ Leads desk_schema Enforced n db [] (Err why)
-never_ends zero db why h = absurd (let e = h.1 in cc)
-never_ends (suc n) db why h = none h.0 h.1 h.2
-  where
-    none : (below : List Work) (w : Work) → ¬ ([] ≡ below ++ w ∷ [])
-    none [] w e = cc
-    none (x ∷ below) w e = cc
+  pub never_ends : (n : ℕ) (db : Trees) (why : Option Refusal)
+      → ¬ Leads (desk_with beside) Enforced n db [] (Err why)
+  never_ends zero db why h = absurd (let e = h.1 in cc)
+  never_ends (suc n) db why h = none h.0 h.1 h.2
+    where
+      none : (below : List Work) (w : Work) → ¬ ([] ≡ below ++ w ∷ [])
+      none [] w e = cc
+      none (x ∷ below) w e = cc
 
--- where no action follows
-pub quiet_out : (table : Table) → IsReferredTo table → (db : Trees) (gone : List ℤ)
-    → Keeps Unique desk_schema db
-    → works desk_schema Enforced 0 table.tree (taken_by db (edit_of db table gone Given 0 [])) [] ≡ []
-    → (why : Option Refusal)
-    → ¬ Writes desk_schema Enforced db (edit_of db table gone Given 0 []) (Err why)
-quiet_out table fit db gone keeps quiet why h =
-    let done = taken_out table fit db gone keeps (Settles desk_schema Enforced) 0 [] why h in
-    let settled = subst (λ ws. Settles desk_schema Enforced done.0 ws (Err why)) quiet done.2 in
-    never_ends settled.0 done.0 why settled.1
+  -- where no action follows
+  pub quiet_out : (table : Table) → IsReferredTo table → (db : Trees) (gone : List ℤ)
+      → Keeps Unique (desk_with beside) db
+      → works (desk_with beside) Enforced 0 table.tree (taken_by db (edit_of db table gone Given 0 [])) [] ≡ []
+      → (why : Option Refusal)
+      → ¬ Writes (desk_with beside) Enforced db (edit_of db table gone Given 0 []) (Err why)
+  quiet_out table fit db gone keeps quiet why h =
+      let done = taken_out table fit db gone keeps (Settles (desk_with beside) Enforced) 0 [] why h in
+      let settled = subst (λ ws. Settles (desk_with beside) Enforced done.0 ws (Err why)) quiet done.2 in
+      never_ends settled.0 done.0 why settled.1
 
 -- a DELETE stops where its query does
 pub deletes_stopped : (task : Task) (q : Program) (db : Trees) (stop : Option Error)

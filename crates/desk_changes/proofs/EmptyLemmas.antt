@@ -12,7 +12,7 @@ use Rattle.sqlite_schema.specs.declared.schema.Column.{Column}
 use Rattle.sqlite_schema.specs.declared.schema.Reference.{Reference}
 use Rattle.sqlite_schema.specs.declared.program.Program.{Program}
 use Rattle.sqlite_schema.specs.declared.schema.Keys.TheVariants.{Enforced}
-use Rattle.desk_sql.specs.Schema.{desk_schema, old_volume_table, old_span_table}
+use Rattle.desk_sql.specs.Schema.{old_volume_table, old_span_table, Beside, StandsApart, IsDeskSchema, desk_with}
 use Rattle.desk_sql.specs.Rows.{IsDesk, AreNumbered, columns, cover_columns, tables_of, RemovesOldVolumes, RemovesOldSpans}
 use Rattle.desk_sql.specs.Statements.{Changes}
 use Rattle.desk_changes.specs.RowChanges.{TakesRoom, TextTakes}
@@ -24,10 +24,11 @@ use Rattle.desk_sql.proofs.lemmas.Cascade.{IsQuiet, Others, old_volume_works, ol
 use Rattle.desk_changes.proofs.RemoveLemmas.{tables_are}
 use Rattle.desk_changes.proofs.RoomTexts.{same_room}
 
--- a tree has no rows, and the others have theirs
-pub record Emptied (tree : ℕ) (db next : Trees) : Type 0 where
-  pub rows : next tree ≡ []
-  pub others : Others tree db next
+module _ {beside : Beside} (away : StandsApart beside) where
+  -- a tree has no rows, and the others have theirs
+  pub record Emptied (tree : ℕ) (db next : Trees) : Type 0 where
+    pub rows : next tree ≡ []
+    pub others : (Others away) tree db next
 
 none_stay : (rows : List Row) → filter (λ r. false) rows ≡ []
 none_stay [] = refl
@@ -36,24 +37,25 @@ none_stay (r ∷ rows) = none_stay rows
 pub none_numbered : AreNumbered []
 none_numbered = record { whole = tt; distinct = tt }
 
-module _ (limit : Option ℕ) (name : List ℕ) (cols : List Column) (key : List ℕ) (refs : List Reference)
-    (tree : ℕ) where
-  abbrev pub empty_task : Task
-  empty_task = task_at limit [] name cols key refs tree
+module _ {beside : Beside} (away : StandsApart beside) where
+  module _ (limit : Option ℕ) (name : List ℕ) (cols : List Column) (key : List ℕ) (refs : List Reference)
+      (tree : ℕ) where
+    abbrev pub empty_task : Task
+    empty_task = (task_at away) limit [] name cols key refs tree
 
-  abbrev pub empty_program : Program
-  empty_program = record { lets = []; body = empty_query tree }
+    abbrev pub empty_program : Program
+    empty_program = record { lets = []; body = empty_query tree }
 
-  pub emptied : (db : Trees) (w : Written) → overlay db [] tree ≡ db tree → AreNumbered (db tree)
-      → IsQuiet tree → Deletes empty_task empty_program db (Ok w) → Emptied tree db w.trees
-  emptied db w same num quiet h =
-      let f = delete_finds limit [] name cols key refs tree db [] (λ r. true) w same (λ r. refl) h in
-      let edit = delete_edit limit [] name cols key refs tree db f.found in
-      let step = one_step desk_schema Enforced db w.trees edit (quiet 0 (taken_by db edit)) f.writes in
-      record {
-        rows = step.rows ∙ removed (λ r. true) (db tree) f.found num f.are ∙ none_stay (db tree);
-        others = step.tables;
-      }
+    pub emptied : (db : Trees) (w : Written) → overlay db [] tree ≡ db tree → AreNumbered (db tree)
+        → (IsQuiet away) tree → Deletes empty_task empty_program db (Ok w) → (Emptied away) tree db w.trees
+    emptied db w same num quiet h =
+        let f = (delete_finds away) limit [] name cols key refs tree db [] (λ r. true) w same (λ r. refl) h in
+        let edit = (delete_edit away) limit [] name cols key refs tree db f.found in
+        let step = one_step (desk_with beside) Enforced db w.trees edit (quiet 0 (taken_by db edit)) f.writes in
+        record {
+          rows = step.rows ∙ removed (λ r. true) (db tree) f.found num f.are ∙ none_stay (db tree);
+          others = step.tables;
+        }
 
 module _ (limit : Option ℕ) (old new : Database) (desk : IsDesk old) where
   abbrev db : Trees
@@ -62,21 +64,22 @@ module _ (limit : Option ℕ) (old new : Database) (desk : IsDesk old) where
   -- ---- version 1's volumes
 
   volumes_left : May empty_old_volumes_text [] limit old new
-      → (new.schema ≡ desk_schema) × Emptied 4 db new.trees
+      → (new.schema ≡ old.schema) × (Emptied desk.schema.apart) 4 db new.trees
   volumes_left h =
-      let task = empty_task limit old_volume_table.name old_volume_table.columns old_volume_table.primary
+      let task = (empty_task desk.schema.apart) limit old_volume_table.name old_volume_table.columns old_volume_table.primary
       old_volume_table.references 4 in
       let q : Program = record { lets = []; body = empty_query 4 } in
       let d = did empty_old_volumes_text [] limit old new desk (Delete 2 q) empty_old_volumes_is h in
       let it = rows_written task (Delete 2 q) db d.0 new d.1 in (
-        ap (λ (d : Database). d.schema) it.2,
-        subst (Emptied 4 db) (sym (ap (λ (d : Database). d.trees) it.2))
-            (emptied limit old_volume_table.name old_volume_table.columns old_volume_table.primary
-            old_volume_table.references 4 db it.0 refl desk.old_volumes old_volume_works it.1),
+        ap (λ (d : Database). d.schema) it.2 ∙ sym desk.schema.is,
+        subst ((Emptied desk.schema.apart) 4 db) (sym (ap (λ (d : Database). d.trees) it.2))
+            ((emptied desk.schema.apart) limit old_volume_table.name old_volume_table.columns old_volume_table.primary
+            old_volume_table.references 4 db it.0 refl desk.old_volumes (old_volume_works desk.schema.apart) it.1),
       )
 
   pub empty_old_volumes : May empty_old_volumes_text [] limit old new
       → IsDesk new × RemovesOldVolumes (tables_of db) (tables_of new.trees)
+      × (new.schema ≡ old.schema)
   empty_old_volumes h =
       let left = volumes_left h in
       let a = left.1.others in
@@ -87,7 +90,7 @@ module _ (limit : Option ℕ) (old new : Database) (desk : IsDesk old) where
       let e9 : new.trees 9 ≡ db 9 = a.1.1.1.1.0 (unequal _ _ refl) in
       let e11 : new.trees 11 ≡ db 11 = a.1.1.1.1.1.0 (unequal _ _ refl) in (
         record {
-          schema = left.0;
+          schema = subst IsDeskSchema (sym left.0) desk.schema;
           operators = subst AreNumbered (sym e0) desk.operators;
           plans = subst AreNumbered (sym e2) desk.plans;
           old_volumes = subst AreNumbered (sym e4) none_numbered;
@@ -98,26 +101,28 @@ module _ (limit : Option ℕ) (old new : Database) (desk : IsDesk old) where
         tables_are new.trees _ _ _ _ _ _ _ (ap (map (columns 2)) e0) (ap (map (columns 5)) e2)
             (ap (map (columns 8)) e4) (ap (map (columns 10)) e6) (ap (map (columns 8)) e9)
             (ap (map cover_columns) e9) (ap (map (columns 10)) e11),
+        left.0,
       )
 
   -- ---- version 1's spans
 
   spans_left : May empty_old_spans_text [] limit old new
-      → (new.schema ≡ desk_schema) × Emptied 6 db new.trees
+      → (new.schema ≡ old.schema) × (Emptied desk.schema.apart) 6 db new.trees
   spans_left h =
-      let task = empty_task limit old_span_table.name old_span_table.columns old_span_table.primary
+      let task = (empty_task desk.schema.apart) limit old_span_table.name old_span_table.columns old_span_table.primary
       old_span_table.references 6 in
       let q : Program = record { lets = []; body = empty_query 6 } in
       let d = did empty_old_spans_text [] limit old new desk (Delete 3 q) empty_old_spans_is h in
       let it = rows_written task (Delete 3 q) db d.0 new d.1 in (
-        ap (λ (d : Database). d.schema) it.2,
-        subst (Emptied 6 db) (sym (ap (λ (d : Database). d.trees) it.2))
-            (emptied limit old_span_table.name old_span_table.columns old_span_table.primary
-            old_span_table.references 6 db it.0 refl desk.old_spans old_span_works it.1),
+        ap (λ (d : Database). d.schema) it.2 ∙ sym desk.schema.is,
+        subst ((Emptied desk.schema.apart) 6 db) (sym (ap (λ (d : Database). d.trees) it.2))
+            ((emptied desk.schema.apart) limit old_span_table.name old_span_table.columns old_span_table.primary
+            old_span_table.references 6 db it.0 refl desk.old_spans (old_span_works desk.schema.apart) it.1),
       )
 
   pub empty_old_spans : May empty_old_spans_text [] limit old new
       → IsDesk new × RemovesOldSpans (tables_of db) (tables_of new.trees)
+      × (new.schema ≡ old.schema)
   empty_old_spans h =
       let left = spans_left h in
       let a = left.1.others in
@@ -128,7 +133,7 @@ module _ (limit : Option ℕ) (old new : Database) (desk : IsDesk old) where
       let e9 : new.trees 9 ≡ db 9 = a.1.1.1.1.0 (unequal _ _ refl) in
       let e11 : new.trees 11 ≡ db 11 = a.1.1.1.1.1.0 (unequal _ _ refl) in (
         record {
-          schema = left.0;
+          schema = subst IsDeskSchema (sym left.0) desk.schema;
           operators = subst AreNumbered (sym e0) desk.operators;
           plans = subst AreNumbered (sym e2) desk.plans;
           old_volumes = subst AreNumbered (sym e4) desk.old_volumes;
@@ -139,6 +144,7 @@ module _ (limit : Option ℕ) (old new : Database) (desk : IsDesk old) where
         tables_are new.trees _ _ _ _ _ _ _ (ap (map (columns 2)) e0) (ap (map (columns 5)) e2)
             (ap (map (columns 8)) e4) (ap (map (columns 10)) e6) (ap (map (columns 8)) e9)
             (ap (map cover_columns) e9) (ap (map (columns 10)) e11),
+        left.0,
       )
 
 -- ---- the texts

@@ -33,7 +33,6 @@ use Rattle.sqlite_schema.specs.Rules.{is_key_of, Obeys}
 use Rattle.sqlite_schema.specs.declared.program.Program.{Program}
 use Rattle.sqlite_schema.specs.declared.schema.Constraint.TheVariants.{Unique}
 use Rattle.sqlite_schema.specs.declared.schema.Keys.TheVariants.{Enforced}
-use Rattle.desk_sql.specs.Schema.{desk_schema}
 use Rattle.desk_sql.specs.Rows.{AreNumbered}
 use Rattle.desk_sql.specs.Statements.{enforced}
 use Rattle.desk_sql.specs.Changing.{AreLow, IsAtLimit}
@@ -43,6 +42,7 @@ use Rattle.desk_changes.proofs.DeleteStops.{IsReferredTo, same_stop, rows_stoppe
 use Rattle.desk_sql.proofs.lemmas.Key.{obeyed_refers}
 use Rattle.desk_changes.proofs.PassLemmas.{Passes, passed, refers_twins}
 use Rattle.desk_changes.proofs.UpdateStops.{Sets, IsGood, passes_all, twins_of}
+use Rattle.desk_sql.specs.Schema.{Beside, StandsApart, desk_with}
 
 -- an UPDATE stops where its query does
 updates_stopped : (task : Task) (q : Program) (given : Row) (db : Trees) (stop : Option Error)
@@ -59,80 +59,81 @@ updates_stopped task q given db stop sure made (inr (found, h, inl (s, (why, ref
     absurd (made found why h refused)
 updates_stopped task q given db stop sure made (inr (found, h, inr (next, writes, is))) = absurd (cc)
 
--- what an UPDATE of one table finds and sets
-module _ (limit : Option ℕ) (params : Row) (name : List ℕ) (cols : List Column) (key : List ℕ)
-    (refs : List Reference) (tree : ℕ) (db : Trees) (terms project : List Term) (wanted : Row → Bool)
-    (source : Row → Row) (cells : Row) where
-  abbrev table : Table
-  table = table_at limit params name cols key refs tree
+module _ {beside : Beside} (away : StandsApart beside) where
+  -- what an UPDATE of one table finds and sets
+  module _ (limit : Option ℕ) (params : Row) (name : List ℕ) (cols : List Column) (key : List ℕ)
+      (refs : List Reference) (tree : ℕ) (db : Trees) (terms project : List Term) (wanted : Row → Bool)
+      (source : Row → Row) (cells : Row) where
+    abbrev table : Table
+    table = table_at limit params name cols key refs tree
 
-  abbrev program : Program
-  program = record { lets = []; body = query_of (inner tree end) terms project [] }
+    abbrev program : Program
+    program = record { lets = []; body = query_of (inner tree end) terms project [] }
 
-  abbrev made : Row → Row
-  made r = cast_row table (drop 1 (source r))
+    abbrev made : Row → Row
+    made r = cast_row table (drop 1 (source r))
 
-  abbrev edit : List Row → Edit
-  edit = update_edit limit params name cols key refs tree db
+    abbrev edit : List Row → Edit
+    edit = (update_edit away) limit params name cols key refs tree db
 
-  pub record IsInPlace : Type 0 where
-    pub listed : Has desk_schema.tables table
-    pub referred : IsReferredTo table
-    pub refers : list_all (is_key_of desk_schema) refs ≡ true
-    pub alone : overlay db [] tree ≡ db tree
-    pub shows : (r : Row) → eval_all project (params ∷ r ∷ []) ≡ source r
-    pub finds : (r : Row) → list_all (holds (params ∷ r ∷ [])) terms ≡ wanted r
-    pub keeps : (r : Row) → rowid (source r) ≡ rowid r
-    pub sets : Sets table wanted made cells
-    pub good : IsGood table db cells
-    pub num : AreNumbered (db tree)
-    pub low : AreLow (db tree)
-    pub obeys : Obeys desk_schema db
-    pub quiet : (found : List Row)
-        → works desk_schema Enforced 0 tree (taken_by db (edit found)) (edit found).news ≡ []
-    pub sure : (e : Error) → RefusesQuery limit (record { schema = desk_schema; trees = db }) program params e
-        → (e ≡ SqliteFailure code.OperationInterrupted) × IsSome limit
+    pub record IsInPlace : Type 0 where
+      pub listed : Has (desk_with beside).tables table
+      pub referred : (IsReferredTo away) table
+      pub refers : list_all (is_key_of (desk_with beside)) refs ≡ true
+      pub alone : overlay db [] tree ≡ db tree
+      pub shows : (r : Row) → eval_all project (params ∷ r ∷ []) ≡ source r
+      pub finds : (r : Row) → list_all (holds (params ∷ r ∷ [])) terms ≡ wanted r
+      pub keeps : (r : Row) → rowid (source r) ≡ rowid r
+      pub sets : (Sets away) table wanted made cells
+      pub good : (IsGood away) table db cells
+      pub num : AreNumbered (db tree)
+      pub low : AreLow (db tree)
+      pub obeys : Obeys (desk_with beside) db
+      pub quiet : (found : List Row)
+          → works (desk_with beside) Enforced 0 tree (taken_by db (edit found)) (edit found).news ≡ []
+      pub sure : (e : Error) → RefusesQuery limit (record { schema = (desk_with beside); trees = db }) program params e
+          → (e ≡ SqliteFailure code.OperationInterrupted) × IsSome limit
 
-  module _ (it : IsInPlace) where
-    abbrev news : List Row → List Row
-    news found = news_of limit params name cols key refs tree db found
+    module _ (it : IsInPlace) where
+      abbrev news : List Row → List Row
+      news found = (news_of away) limit params name cols key refs tree db found
 
-    news_are : (found : List Row) → (edit found).news ≡ news found
-    news_are found = given_stay (without_all (db tree) (ids_of found)) (news found)
+      news_are : (found : List Row) → (edit found).news ≡ news found
+      news_are found = given_stay (without_all (db tree) (ids_of found)) (news found)
 
-    module _ (found : List Row) (are : IsPermutation (map source (filter wanted (db tree))) found) where
-      leaves : without_all (db tree) (ids_of found) ≡ filter (λ r. not (wanted r)) (db tree)
-      leaves = left_is limit params name cols key refs tree db wanted source found are it.num it.keeps
+      module _ (found : List Row) (are : IsPermutation (map source (filter wanted (db tree))) found) where
+        leaves : without_all (db tree) (ids_of found) ≡ filter (λ r. not (wanted r)) (db tree)
+        leaves = (left_is away) limit params name cols key refs tree db wanted source found are it.num it.keeps
 
-      makes : IsPermutation (map made (filter wanted (db tree))) (news found)
-      makes = made_is limit params name cols key refs tree db wanted source found are
+        makes : IsPermutation (map made (filter wanted (db tree))) (news found)
+        makes = (made_is away) limit params name cols key refs tree db wanted source found are
 
-      pass : Passes db (edit found)
-      pass = subst (λ ns. Passes db (record { table = table; gone = ids_of found; news = ns }))
-          (sym (news_are found))
-          (passes_all table it.listed it.referred db (news found) wanted made cells it.num it.sets makes
-          (ids_of found) leaves it.low it.good it.refers (it.obeys.rules Unique))
+        pass : (Passes away) db (edit found)
+        pass = subst (λ ns. (Passes away) db (record { table = table; gone = ids_of found; news = ns }))
+            (sym (news_are found))
+            ((passes_all away) table it.listed it.referred db (news found) wanted made cells it.num it.sets makes
+            (ids_of found) leaves it.low it.good it.refers (it.obeys.rules Unique))
 
-      twins : (next : Trees) → next tree ≡ edited db (edit found) → AreTwins desk_schema table db next
-      twins next is = twins_of table it.listed it.referred db (news found) wanted made cells it.num it.sets
-          makes next (is ∙ ap₂ put_all leaves (news_are found))
+        twins : (next : Trees) → next tree ≡ edited db (edit found) → AreTwins (desk_with beside) table db next
+        twins next is = (twins_of away) table it.listed it.referred db (news found) wanted made cells it.num it.sets
+            makes next (is ∙ ap₂ put_all leaves (news_are found))
 
-    pub never_stops : (at : ℕ) (stop : Option Error)
-        → OnRows (task_at limit params name cols key refs tree) enforced None (Update at program) db
-        (Err stop)
-        → IsAtLimit limit stop
-    never_stops at stop =
-        rows_stopped (task_at limit params name cols key refs tree) (Update at program) db stop
-        (IsAtLimit limit stop)
-        (updates_stopped (task_at limit params name cols key refs tree) program params db stop it.sure
-        (λ found why asked. passed db (edit found) (pass found
-        (update_finds limit params name cols key refs tree db terms project wanted source found it.alone
-        it.shows it.finds asked)) (it.quiet found) why))
-        (λ w done.
-        let s = update_sets limit params name cols key refs tree db terms project wanted source w it.alone
-        it.shows it.finds done in
-        let step = one_step desk_schema Enforced db w.trees (edit s.found) (it.quiet s.found) s.writes in
-        refers_twins db w.trees table it.listed
-        (λ t known. all_has (λ (t : Table). t.tree ≢ tree → w.trees t.tree ≡ db t.tree) desk_schema.tables t
-        step.tables known)
-        (twins s.found s.are w.trees step.rows) (obeyed_refers desk_schema db it.obeys))
+      pub never_stops : (at : ℕ) (stop : Option Error)
+          → OnRows ((task_at away) limit params name cols key refs tree) enforced None (Update at program) db
+          (Err stop)
+          → IsAtLimit limit stop
+      never_stops at stop =
+          rows_stopped ((task_at away) limit params name cols key refs tree) (Update at program) db stop
+          (IsAtLimit limit stop)
+          (updates_stopped ((task_at away) limit params name cols key refs tree) program params db stop it.sure
+          (λ found why asked. (passed away) db (edit found) (pass found
+          ((update_finds away) limit params name cols key refs tree db terms project wanted source found it.alone
+          it.shows it.finds asked)) (it.quiet found) why))
+          (λ w done.
+          let s = (update_sets away) limit params name cols key refs tree db terms project wanted source w it.alone
+          it.shows it.finds done in
+          let step = one_step (desk_with beside) Enforced db w.trees (edit s.found) (it.quiet s.found) s.writes in
+          (refers_twins away) db w.trees table it.listed
+          (λ t known. all_has (λ (t : Table). t.tree ≢ tree → w.trees t.tree ≡ db t.tree) (desk_with beside).tables t
+          step.tables known)
+          (twins s.found s.are w.trees step.rows) (obeyed_refers (desk_with beside) db it.obeys))

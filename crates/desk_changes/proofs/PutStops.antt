@@ -18,7 +18,7 @@ use Rattle.sqlite_rules.proofs.ListLemmas.{some_has}
 use Rattle.sqlite_rules.proofs.RuleLemmas.{refers_at}
 use Rattle.sqlite_schema.specs.Rules.{agree, has_null, has_parent, is_held, Obeys, Refers}
 use Rattle.sqlite_schema.specs.declared.schema.Among.TheVariants.{All}
-use Rattle.desk_sql.specs.Schema.{desk_schema, span_made, volume_made, to_plan}
+use Rattle.desk_sql.specs.Schema.{span_made, volume_made, to_plan, Beside, StandsApart, desk_in, desk_with}
 use Rattle.desk_sql.specs.Rows.{IsDesk, Tables, columns, is_of, is_same, plan_row, tables_of, AddsPlan, RemovesPlan}
 use Rattle.desk_changes.specs.RowChanges.{AddsVolumes, PlanPut, AreNewRows, AreNewSpans, AreNewVolumes, AreOfPlan, HasRoomFor, IsPuttable, TakesRoom}
 use Rattle.desk_sql.specs.Changing.{FitsPlan, HasKey, LacksKey, has_same_key}
@@ -113,29 +113,30 @@ module _ (operator id : List ℕ) where
 
   -- ---- without its plan no row is there
 
-  module _ (db : Trees) (refers : Refers All desk_schema db)
-      (gone : list_any (has_key operator id) (db 2) ≡ false) where
-    no_null : (r : Row) → has_key operator id r ≡ true → has_null key_places r ≡ false
-    no_null r own =
-        let mine = and_parts _ _ own in
-        or_from _ _ (not_null (column r 1) operator mine.0)
-        (or_from _ _ (not_null (column r 2) id mine.1) refl)
+  module _ {beside : Beside} (away : StandsApart beside) where
+    module _ (db : Trees) (refers : Refers All (desk_with beside) db)
+        (gone : list_any (has_key operator id) (db 2) ≡ false) where
+      no_null : (r : Row) → has_key operator id r ≡ true → has_null key_places r ≡ false
+      no_null r own =
+          let mine = and_parts _ _ own in
+          or_from _ _ (not_null (column r 1) operator mine.0)
+          (or_from _ _ (not_null (column r 2) id mine.1) refl)
 
-    orphan : (r : Row) → has_key operator id r ≡ true → ¬ (has_parent desk_schema.tables db r to_plan ≡ true)
-    orphan r own h = elim (or_cases (has_null key_places r) _ h) [
-      | inl null ↦ both_ways _ (no_null r own) null
-      | inr held ↦ both_ways _
-          (any_same (λ p. agree plain key_places p key_places r) (has_key operator id)
-          (λ p. agrees operator id p r own)
-          (db 2) ∙ gone)
-          (subst (λ o. is_held db key_places r o ≡ true) plan_key held)
-    ]
+      orphan : (r : Row) → has_key operator id r ≡ true → ¬ (has_parent (desk_with beside).tables db r to_plan ≡ true)
+      orphan r own h = elim (or_cases (has_null key_places r) _ h) [
+        | inl null ↦ both_ways _ (no_null r own) null
+        | inr held ↦ both_ways _
+            (any_same (λ p. agree plain key_places p key_places r) (has_key operator id)
+            (λ p. agrees operator id p r own)
+            (db 2) ∙ gone)
+            (subst (λ o. is_held db key_places r o ≡ true) (plan_key away) held)
+      ]
 
-    pub no_rows : (table : Table) → Has desk_schema.tables table → Has table.references to_plan
-        → list_any (has_key operator id) (db table.tree) ≡ false
-    no_rows table listed known = false_from_ne_true _ (λ some.
-        let r = some_has (has_key operator id) (db table.tree) some in
-        orphan r.0 r.2 (refers_at All desk_schema db table r.0 to_plan refers listed r.1 known refl))
+      pub no_rows : (table : Table) → Has (desk_with beside).tables table → Has table.references to_plan
+          → list_any (has_key operator id) (db table.tree) ≡ false
+      no_rows table listed known = false_from_ne_true _ (λ some.
+          let r = some_has (has_key operator id) (db table.tree) some in
+          orphan r.0 r.2 (refers_at All (desk_with beside) db table r.0 to_plan refers listed r.1 known refl))
 
 -- ---- a put, step by step
 
@@ -177,8 +178,9 @@ module _ (operator id : List ℕ) (priority usage aircraft : ℕ) (volumes cover
       (adds : AddsPlan (plan_row operator id priority usage aircraft) (tables_of cut.trees)
       (tables_of planned.trees))
       (taking : TakesRoom 1 0 0 cut.trees planned.trees) where
-    refers : Refers All desk_schema cut.trees
-    refers = obeyed_refers desk_schema cut.trees (subst (λ s. Obeys s cut.trees) desk.schema sound.obeys)
+    refers : Refers All (desk_in cut.schema) cut.trees
+    refers = obeyed_refers (desk_in cut.schema) cut.trees
+        (subst (λ s. Obeys s cut.trees) desk.schema.is sound.obeys)
 
     gone : list_any (has_key operator id) (cut.trees 2) ≡ false
     gone = sym (any_map (is_of operator id) (columns 5) (cut.trees 2)) ∙ cut_plans
@@ -186,13 +188,13 @@ module _ (operator id : List ℕ) (priority usage aircraft : ℕ) (volumes cover
     no_volumes : list_any (is_of operator id) (tables_of planned.trees).volumes ≡ false
     no_volumes = ap (λ (t : Tables). list_any (is_of operator id) t.volumes) adds.1
         ∙ any_map (is_of operator id) (columns 8) (cut.trees 9)
-        ∙ no_rows operator id cut.trees refers gone volume_made
+        ∙ no_rows operator id desk.schema.apart cut.trees refers gone volume_made
         (inr (inr (inr (inr (inl refl))))) (inl refl)
 
     no_spans : list_any (is_of operator id) (tables_of planned.trees).spans ≡ false
     no_spans = ap (λ (t : Tables). list_any (is_of operator id) t.spans) adds.1
         ∙ any_map (is_of operator id) (columns 10) (cut.trees 11)
-        ∙ no_rows operator id cut.trees refers gone span_made
+        ∙ no_rows operator id desk.schema.apart cut.trees refers gone span_made
         (inr (inr (inr (inr (inr (inl refl)))))) (inl refl)
 
     -- room that the two changes leave

@@ -17,7 +17,7 @@ use Rattle.sqlite.specs.Does.{Tally, OnRows}
 use Rattle.sqlite_schema.specs.declared.schema.Column.{Column}
 use Rattle.sqlite_schema.specs.declared.schema.Reference.{Reference}
 use Rattle.sqlite.specs.State.{State, Executes}
-use Rattle.desk_sql.specs.Schema.{desk_schema, operator_table, plan_table, volume_table, span_table}
+use Rattle.desk_sql.specs.Schema.{operator_table, plan_table, volume_table, span_table, Beside, StandsApart, desk_with}
 use Rattle.desk_changes.specs.declared.writing.PlanRecord.{PlanRecord}
 use Rattle.desk_changes.specs.declared.writing.VolumeRecord.{VolumeRecord}
 use Rattle.desk_changes.specs.declared.writing.SpanRecord.{SpanRecord}
@@ -34,35 +34,36 @@ use Rattle.desk_changes.proofs.RoomLemmas.{AreWhole, fewer, room_kept, room_put}
 
 -- ---- one row comes to a tree
 
-module _ (limit : Option ℕ) (params : Row) (name : List ℕ) (cols : List Column) (key : List ℕ)
-    (refs : List Reference) (tree : ℕ) (db : Trees) where
-  abbrev numbered : Row
-  numbered = with_rowid Chosen (db tree)
-      (cast_row (table_at limit params name cols key refs tree) (Null ∷ params))
+module _ {beside : Beside} (away : StandsApart beside) where
+  module _ (limit : Option ℕ) (params : Row) (name : List ℕ) (cols : List Column) (key : List ℕ)
+      (refs : List Reference) (tree : ℕ) (db : Trees) where
+    abbrev numbered : Row
+    numbered = with_rowid Chosen (db tree)
+        (cast_row (table_at limit params name cols key refs tree) (Null ∷ params))
 
-  numbered_next : rowid numbered ≡ Int (next_rowid (db tree))
-  numbered_next = ap (λ v. rowid (cond (is_null v) (Int (next_rowid (db tree)) ∷ cast_all cols params)
-      (v ∷ cast_all cols params))) cast_null
+    numbered_next : rowid numbered ≡ Int (next_rowid (db tree))
+    numbered_next = ap (λ v. rowid (cond (is_null v) (Int (next_rowid (db tree)) ∷ cast_all cols params)
+        (v ∷ cast_all cols params))) cast_null
 
-  -- what an INSERT of one row adds
-  pub row_added : (at : ℕ) (terms : List Term) (width : ℕ) (tally : Tally) (now : Database)
-      → value_rows (params ++ []) width (length terms / width) terms ≡ (Null ∷ params) ∷ []
-      → OnRows (task_at limit params name cols key refs tree) enforced None
-      (Insert at (Values terms width)) db
-      (Ok (tally, now)) → Adds tree numbered db now.trees
-  row_added at terms width tally now one h =
-      let it = rows_written (task_at limit params name cols key refs tree) (Insert at (Values terms width)) db
-      tally now h in
-      let done = insert_applies limit params name cols key refs tree terms width db it.0 (Null ∷ params) one
-      it.1 in
-      subst (Adds tree numbered db) (sym (ap (λ (d : Database). d.trees) it.2))
-      (adds name cols key refs tree db it.0.trees (Null ∷ params) done)
+    -- what an INSERT of one row adds
+    pub row_added : (at : ℕ) (terms : List Term) (width : ℕ) (tally : Tally) (now : Database)
+        → value_rows (params ++ []) width (length terms / width) terms ≡ (Null ∷ params) ∷ []
+        → OnRows ((task_at away) limit params name cols key refs tree) enforced None
+        (Insert at (Values terms width)) db
+        (Ok (tally, now)) → (Adds away) tree numbered db now.trees
+    row_added at terms width tally now one h =
+        let it = rows_written ((task_at away) limit params name cols key refs tree) (Insert at (Values terms width)) db
+        tally now h in
+        let done = (insert_applies away) limit params name cols key refs tree terms width db it.0 (Null ∷ params) one
+        it.1 in
+        subst ((Adds away) tree numbered db) (sym (ap (λ (d : Database). d.trees) it.2))
+        ((adds away) name cols key refs tree db it.0.trees (Null ∷ params) done)
 
-  pub room_taken : (now : Trees) (left : ℕ) → AreWhole (db tree) → Adds tree numbered db now
-      → HasRoomFor (1 + left) (db tree) → HasRoomFor left (now tree)
-  room_taken now left whole a room = subst (HasRoomFor left) (sym a.at)
-      (room_put left numbered (db tree) numbered_next whole
-      (fewer (suc left) (1 + left) (db tree) (omega arith) room))
+    pub room_taken : (now : Trees) (left : ℕ) → AreWhole (db tree) → (Adds away) tree numbered db now
+        → HasRoomFor (1 + left) (db tree) → HasRoomFor left (now tree)
+    room_taken now left whole a room = subst (HasRoomFor left) (sym a.at)
+        (room_put left numbered (db tree) numbered_next whole
+        (fewer (suc left) (1 + left) (db tree) (omega arith) room))
 
 -- a tree that stays has its room
 pub same_room : (old now : List Row) (left : ℕ) → now ≡ old → HasRoomFor (0 + left) old → HasRoomFor left now
@@ -77,9 +78,9 @@ insert_operator_room name ceiling = record {
       let db = old.trees in
       let d = did insert_operator_text row limit old new desk (Insert 0 (Values insert_operator_terms 3))
       insert_operator_is h in
-      let a = row_added limit row operator_table.name operator_table.columns operator_table.primary
+      let a = (row_added desk.schema.apart) limit row operator_table.name operator_table.columns operator_table.primary
       operator_table.references 0 db 0 insert_operator_terms 3 d.0 new refl d.1 in
-      λ left. room_taken limit row operator_table.name operator_table.columns operator_table.primary
+      λ left. (room_taken desk.schema.apart) limit row operator_table.name operator_table.columns operator_table.primary
       operator_table.references 0 db new.trees left desk.operators.whole a;
 }
 
@@ -89,10 +90,10 @@ insert_plan_room p = record {
       let db = old.trees in
       let d = did insert_plan_text (plan_row_in p) limit old new desk (Insert 1 (Values insert_plan_terms 6))
       insert_plan_is h in
-      let a = row_added limit (plan_row_in p) plan_table.name plan_table.columns plan_table.primary
+      let a = (row_added desk.schema.apart) limit (plan_row_in p) plan_table.name plan_table.columns plan_table.primary
       plan_table.references 2 db 1 insert_plan_terms 6 d.0 new refl d.1 in
       record {
-        of_plans = λ left. room_taken limit (plan_row_in p) plan_table.name plan_table.columns
+        of_plans = λ left. (room_taken desk.schema.apart) limit (plan_row_in p) plan_table.name plan_table.columns
             plan_table.primary
             plan_table.references 2 db new.trees left desk.plans.whole a;
         of_volumes = λ left. same_room (db 9) (new.trees 9) left (a.others.1.1.1.1.0 (unequal _ _ refl));
@@ -107,11 +108,11 @@ insert_volume_room v = record {
       let d =
       did insert_volume_text (volume_params v) limit old new desk (Insert 4 (Values insert_volume_terms 10))
       insert_volume_is h in
-      let a = row_added limit (volume_params v) volume_table.name volume_table.columns volume_table.primary
+      let a = (row_added desk.schema.apart) limit (volume_params v) volume_table.name volume_table.columns volume_table.primary
       volume_table.references 9 db 4 insert_volume_terms 10 d.0 new refl d.1 in
       record {
         of_plans = λ left. same_room (db 2) (new.trees 2) left (a.others.1.0 (unequal _ _ refl));
-        of_volumes = λ left. room_taken limit (volume_params v) volume_table.name volume_table.columns
+        of_volumes = λ left. (room_taken desk.schema.apart) limit (volume_params v) volume_table.name volume_table.columns
             volume_table.primary volume_table.references 9 db new.trees left desk.volumes.whole a;
         of_spans = λ left. same_room (db 11) (new.trees 11) left (a.others.1.1.1.1.1.0 (unequal _ _ refl));
       };
@@ -123,12 +124,12 @@ insert_span_room s = record {
       let db = old.trees in
       let d = did insert_span_text (span_row_in s) limit old new desk (Insert 5 (Values insert_span_terms 11))
       insert_span_is h in
-      let a = row_added limit (span_row_in s) span_table.name span_table.columns span_table.primary
+      let a = (row_added desk.schema.apart) limit (span_row_in s) span_table.name span_table.columns span_table.primary
       span_table.references 11 db 5 insert_span_terms 11 d.0 new refl d.1 in
       record {
         of_plans = λ left. same_room (db 2) (new.trees 2) left (a.others.1.0 (unequal _ _ refl));
         of_volumes = λ left. same_room (db 9) (new.trees 9) left (a.others.1.1.1.1.0 (unequal _ _ refl));
-        of_spans = λ left. room_taken limit (span_row_in s) span_table.name span_table.columns
+        of_spans = λ left. (room_taken desk.schema.apart) limit (span_row_in s) span_table.name span_table.columns
             span_table.primary span_table.references 11 db new.trees left desk.spans.whole a;
       };
 }
@@ -149,13 +150,13 @@ remove_plan_room operator id = record {
       let db = old.trees in
       let d =
       did remove_plan_text (key_row operator id) limit old new desk
-      (Delete 1 (plan_program operator id limit))
+      (Delete 1 ((plan_program desk.schema.apart) operator id limit))
       remove_plan_is h in
-      let it = rows_written (plan_task operator id limit)
-      (Delete 1 (plan_program operator id limit)) db d.0 new d.1 in
-      let cut = plan_removed operator id limit old it.0 desk it.1 in
-      let left_are : AreCut operator id (list_any (has_key operator id) (db 2)) db new.trees =
-      subst (AreCut operator id (list_any (has_key operator id) (db 2)) db)
+      let it = rows_written ((plan_task desk.schema.apart) operator id limit)
+      (Delete 1 ((plan_program desk.schema.apart) operator id limit)) db d.0 new d.1 in
+      let cut = (plan_removed desk.schema.apart) operator id limit old it.0 desk it.1 in
+      let left_are : (AreCut desk.schema.apart) operator id (list_any (has_key operator id) (db 2)) db new.trees =
+      subst ((AreCut desk.schema.apart) operator id (list_any (has_key operator id) (db 2)) db)
       (sym (ap (λ (d : Database). d.trees) it.2)) cut in
       let b = list_any (has_key operator id) (db 2) in
       let other = λ (r : Row). not (has_key operator id r) in
@@ -177,7 +178,8 @@ pub took : (text : List ℕ) (params : Row) (Change : Tables → Tables → Type
     → Executes text params old new (Ok count) → Room old.now.trees new.now.trees
 took text params Change Room known takes old new desk count h =
     takes.room old.step_limit old.now new.now desk
-    (ran text params old new desk_schema desk.schema known.plain known.writes count h)
+    (ran text params old new old.now.schema refl (known.plain old.now.schema desk.schema)
+    (known.writes old.now.schema desk.schema) count h)
 
 -- of a change whose rows nobody counts
 pub any_count : (text : List ℕ) (params : Row) → TextCounts text params (λ count t. ⊤)
@@ -190,4 +192,5 @@ pub counted_so : (text : List ℕ) (params : Row) (Change : Tables → Tables �
     → Executes text params old new (Ok count) → Counts count (tables_of old.now.trees)
 counted_so text params Change Counts known counts old new desk count h =
     counts.counted old.step_limit old.now new.now count desk
-    (ran_counting text params old new desk_schema desk.schema known.plain known.writes count h)
+    (ran_counting text params old new old.now.schema refl (known.plain old.now.schema desk.schema)
+    (known.writes old.now.schema desk.schema) count h)

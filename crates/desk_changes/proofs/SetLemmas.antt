@@ -15,7 +15,7 @@ use Rattle.sqlite.specs.Kind.TheVariants as kind
 use Rattle.sqlite.specs.Command.TheVariants.{Update}
 use Rattle.sqlite.specs.Effect.{Database}
 use Rattle.sqlite_schema.specs.declared.program.Program.{Program}
-use Rattle.desk_sql.specs.Schema.{operator_table, plan_table}
+use Rattle.desk_sql.specs.Schema.{operator_table, plan_table, IsDeskSchema}
 use Rattle.desk_sql.specs.Rows.{IsDesk, AreNumbered, is_text, is_row_by, is_of, columns, tables_of, operator_row, plan_row, with_row, SetsOperators, SetsPlans}
 use Rattle.desk_sql.specs.Statements.{Changes}
 use Rattle.desk_changes.specs.RowChanges.{TextCounts, TextTakes, OperatorsStayUnless, closing_row}
@@ -54,27 +54,29 @@ module _ (name : List ℕ) (ceiling : ℕ) (limit : Option ℕ) (old new : Datab
       → IsDesk new × SetsOperators (is_row_by name) (operator_row name ceiling)
       (tables_of old.trees)
       (tables_of new.trees)
+      × (new.schema ≡ old.schema)
   set_ceiling desk h =
       let db = old.trees in
       let q : Program = record { lets = []; body = set_ceiling_query } in
       let d = did set_ceiling_text ceiling_params limit old new desk (Update 0 q) set_ceiling_is h in
-      let it = rows_written (task_at limit ceiling_params operator_table.name
+      let it = rows_written ((task_at desk.schema.apart) limit ceiling_params operator_table.name
       operator_table.columns
       operator_table.primary operator_table.references 0) (Update 0 q) db d.0 new d.1 in
       let wanted = λ (r : Row). is_text (column r 1) name in
       let source = λ (r : Row). rowid r ∷ rowid r ∷ column r 1 ∷ Int (pos ceiling) ∷ [] in
-      let s = update_sets limit ceiling_params operator_table.name operator_table.columns
+      let s = (update_sets desk.schema.apart) limit ceiling_params operator_table.name operator_table.columns
       operator_table.primary operator_table.references 0 db
       set_ceiling_query.filter set_ceiling_query.project wanted source it.0 refl (λ r. refl)
       (λ r. both_hold _ ∙ equals_text (column r 1) name) it.1 in
-      let c = changes limit ceiling_params operator_table.name operator_table.columns
+      let c = (changes desk.schema.apart) limit ceiling_params operator_table.name operator_table.columns
       operator_table.primary operator_table.references 0 db wanted (is_row_by name) (columns 2) source
       (operator_row name ceiling) it.0.trees desk.operators (λ r. refl) (λ r. refl)
       (λ r is. then (ap (cast kind.Text) (text_same (column r 1) name is))
       (then (cast_int (pos ceiling)) refl)) (λ found.
-      let edit = update_edit limit ceiling_params operator_table.name operator_table.columns
+      let edit = (update_edit desk.schema.apart) limit ceiling_params operator_table.name operator_table.columns
       operator_table.primary operator_table.references 0 db found in
-      operator_quiet (taken_by db edit) edit.news) s in
+      (operator_quiet desk.schema.apart) (taken_by db edit) edit.news) s in
+      let same : new.schema ≡ old.schema = ap (λ (d : Database). d.schema) it.2 ∙ sym desk.schema.is in
       let now : new.trees ≡ it.0.trees = ap (λ (d : Database). d.trees) it.2 in
       let e2 : new.trees 2 ≡ db 2 = ap (λ (t : Trees). t 2) now ∙ c.others.1.0 (unequal _ _ refl) in
       let e4 : new.trees 4 ≡ db 4 = ap (λ (t : Trees). t 4) now ∙ c.others.1.1.0 (unequal _ _ refl) in
@@ -83,7 +85,7 @@ module _ (name : List ℕ) (ceiling : ℕ) (limit : Option ℕ) (old new : Datab
       let e11 : new.trees 11 ≡ db 11 =
       ap (λ (t : Trees). t 11) now ∙ c.others.1.1.1.1.1.0 (unequal _ _ refl) in (
         record {
-          schema = ap (λ (d : Database). d.schema) it.2;
+          schema = subst IsDeskSchema (sym same) desk.schema;
           operators = subst (λ (t : Trees). AreNumbered (t 0)) (sym now) c.num;
           plans = subst AreNumbered (sym e2) desk.plans;
           old_volumes = subst AreNumbered (sym e4) desk.old_volumes;
@@ -96,6 +98,7 @@ module _ (name : List ℕ) (ceiling : ℕ) (limit : Option ℕ) (old new : Datab
               (map (columns 2) (db 0))) (map (columns 2) (t 0))) (sym now) c.rows,
           tables_operator db new.trees e2 e4 e6 e9 e11,
         ),
+        same,
       )
 
 module _ (operator id : List ℕ) (priority aircraft : ℕ) (limit : Option ℕ) (old new : Database) where
@@ -105,23 +108,24 @@ module _ (operator id : List ℕ) (priority aircraft : ℕ) (limit : Option ℕ)
   pub close_plan : IsDesk old → May close_plan_text close_params limit old new
       → IsDesk new × SetsPlans (is_of operator id) (plan_row operator id priority 2 aircraft)
       (tables_of old.trees) (tables_of new.trees)
+      × (new.schema ≡ old.schema)
   close_plan desk h =
       let db = old.trees in
       let q : Program = record { lets = []; body = close_plan_query } in
       let d = did close_plan_text close_params limit old new desk (Update 1 q) close_plan_is h in
-      let it = rows_written (task_at limit close_params plan_table.name plan_table.columns
+      let it = rows_written ((task_at desk.schema.apart) limit close_params plan_table.name plan_table.columns
       plan_table.primary plan_table.references 2) (Update 1 q) db d.0 new d.1 in
       let wanted = λ (r : Row). is_text (column r 1) operator && is_text (column r 2) id in
       let source = λ (r : Row). rowid r ∷ rowid r ∷ column r 1 ∷ column r 2 ∷ Int (pos priority)
       ∷ Int (pos 2)
       ∷ Int (pos aircraft) ∷ [] in
-      let s = update_sets limit close_params plan_table.name plan_table.columns
+      let s = (update_sets desk.schema.apart) limit close_params plan_table.name plan_table.columns
       plan_table.primary
       plan_table.references 2 db
       close_plan_query.filter close_plan_query.project wanted source it.0 refl (λ r. refl)
       (λ r. ap₂ (λ a b. a && b) (equals_text (column r 1) operator)
       (both_hold _ ∙ equals_text (column r 2) id)) it.1 in
-      let c = changes limit close_params plan_table.name plan_table.columns plan_table.primary
+      let c = (changes desk.schema.apart) limit close_params plan_table.name plan_table.columns plan_table.primary
       plan_table.references 2 db wanted (is_of operator id) (columns 5) source
       (plan_row operator id priority 2 aircraft) it.0.trees desk.plans (λ r. refl) (λ r. refl)
       (λ r is.
@@ -129,8 +133,9 @@ module _ (operator id : List ℕ) (priority aircraft : ℕ) (limit : Option ℕ)
       then (ap (cast kind.Text) (text_same (column r 1) operator parts.0))
       (then (ap (cast kind.Text) (text_same (column r 2) id parts.1))
       (then (cast_int (pos priority)) (then (cast_int (pos 2)) (then (cast_int (pos aircraft)) refl)))))
-      (plan_quiet limit close_params plan_table.name plan_table.columns plan_table.primary
+      ((plan_quiet desk.schema.apart) limit close_params plan_table.name plan_table.columns plan_table.primary
       plan_table.references db) s in
+      let same : new.schema ≡ old.schema = ap (λ (d : Database). d.schema) it.2 ∙ sym desk.schema.is in
       let now : new.trees ≡ it.0.trees = ap (λ (d : Database). d.trees) it.2 in
       let e0 : new.trees 0 ≡ db 0 = ap (λ (t : Trees). t 0) now ∙ c.others.0 (unequal _ _ refl) in
       let e4 : new.trees 4 ≡ db 4 = ap (λ (t : Trees). t 4) now ∙ c.others.1.1.0 (unequal _ _ refl) in
@@ -139,7 +144,7 @@ module _ (operator id : List ℕ) (priority aircraft : ℕ) (limit : Option ℕ)
       let e11 : new.trees 11 ≡ db 11 =
       ap (λ (t : Trees). t 11) now ∙ c.others.1.1.1.1.1.0 (unequal _ _ refl) in (
         record {
-          schema = ap (λ (d : Database). d.schema) it.2;
+          schema = subst IsDeskSchema (sym same) desk.schema;
           operators = subst AreNumbered (sym e0) desk.operators;
           plans = subst (λ (t : Trees). AreNumbered (t 2)) (sym now) c.num;
           old_volumes = subst AreNumbered (sym e4) desk.old_volumes;
@@ -154,6 +159,7 @@ module _ (operator id : List ℕ) (priority aircraft : ℕ) (limit : Option ℕ)
               (sym now) c.rows,
           tables_plan db new.trees e0 e4 e6 e9 e11,
         ),
+        same,
       )
 
 pub set_ceiling_changes : (name : List ℕ) (ceiling : ℕ) → Changes set_ceiling_text (operator_row name ceiling)
@@ -172,11 +178,11 @@ set_ceiling_counts name ceiling = record {
       let db = old.trees in
       let q : Program = record { lets = []; body = set_ceiling_query } in
       let d = did_counting set_ceiling_text params limit old new count desk (Update 0 q) set_ceiling_is h in
-      let it = rows_counted (task_at limit params operator_table.name operator_table.columns
+      let it = rows_counted ((task_at desk.schema.apart) limit params operator_table.name operator_table.columns
       operator_table.primary operator_table.references 0) (Update 0 q) db d.0 new d.1 in
       let wanted = λ (r : Row). is_text (column r 1) name in
       d.2 ∙ ap (λ rows. unwrap_or rows 0) it.2
-      ∙ update_counts limit params operator_table.name operator_table.columns
+      ∙ (update_counts desk.schema.apart) limit params operator_table.name operator_table.columns
       operator_table.primary operator_table.references 0 db
       set_ceiling_query.filter set_ceiling_query.project wanted
       (λ r. rowid r ∷ rowid r ∷ column r 1 ∷ Int (pos ceiling) ∷ []) it.0 refl (λ r. refl)
@@ -193,22 +199,22 @@ set_ceiling_room name ceiling = record {
       let db = old.trees in
       let q : Program = record { lets = []; body = set_ceiling_query } in
       let d = did set_ceiling_text params limit old new desk (Update 0 q) set_ceiling_is h in
-      let it = rows_written (task_at limit params operator_table.name operator_table.columns
+      let it = rows_written ((task_at desk.schema.apart) limit params operator_table.name operator_table.columns
       operator_table.primary operator_table.references 0) (Update 0 q) db d.0 new d.1 in
       let wanted = λ (r : Row). is_text (column r 1) name in
       let source = λ (r : Row). rowid r ∷ rowid r ∷ column r 1 ∷ Int (pos ceiling) ∷ [] in
-      let s = update_sets limit params operator_table.name operator_table.columns
+      let s = (update_sets desk.schema.apart) limit params operator_table.name operator_table.columns
       operator_table.primary operator_table.references 0 db
       set_ceiling_query.filter set_ceiling_query.project wanted source it.0 refl (λ r. refl)
       (λ r. both_hold _ ∙ equals_text (column r 1) name) it.1 in
       ap (λ (d : Database). d.trees 0) it.2
-      ∙ update_stays limit params operator_table.name operator_table.columns
+      ∙ (update_stays desk.schema.apart) limit params operator_table.name operator_table.columns
       operator_table.primary operator_table.references 0 db wanted source it.0.trees
       (none_pass wanted (columns 2) (is_row_by name) (λ r. refl) (db 0) none)
       (λ found.
-      let edit = update_edit limit params operator_table.name operator_table.columns
+      let edit = (update_edit desk.schema.apart) limit params operator_table.name operator_table.columns
       operator_table.primary operator_table.references 0 db found in
-      operator_quiet (taken_by db edit) edit.news) s;
+      (operator_quiet desk.schema.apart) (taken_by db edit) edit.news) s;
 }
 
 pub set_closed_changes : (operator id : List ℕ) (priority aircraft : ℕ)

@@ -5,7 +5,7 @@ use Rattle.sqlite.specs.declared.types.{Value.TheVariants.Blob, Value.TheVariant
 use Rattle.sqlite.specs.{Order.Row, Tree.Trees, Tree.IsAscending, Effect.Database, Listing.understood}
 use Rattle.desk_sql.specs.Rows.{Tables, VolumeColumns, SpanColumns, is_of, is_not_of, left_without, volume_row, cover_row, span_row, IsDesk, tables_of, is_row_by, operator_row, plan_row, AddsOperator, AddsPlan, AddsVolume, AddsSpan, SetsOperators, SetsPlans, RemovesPlan, RemovesSpans, RemovesOldVolumes, RemovesOldSpans}
 use Rattle.desk_sql.specs.Changing.{HasKey, HasRowids, IsShort, LacksKey, has_same_key, AreLow, FitsOperator, FitsPlan, FitsVolume, FitsSpan, IsSureChange}
-use Rattle.desk_sql.specs.{Schema.desk_schema, Statements.MayCount, Statements.MayWrite, Statements.Changes}
+use Rattle.desk_sql.specs.{Statements.MayCount, Statements.MayWrite, Statements.Changes}
 use Rattle.desk_changes.specs.declared.writing.{VolumeRecord.VolumeRecord, SpanRecord.SpanRecord, PlanRecord.PlanRecord}
 use Rattle.desk_changes.specs.declared.change.{RowChange.RowChange, RowChange.TheVariants.AddOperator, RowChange.TheVariants.AddPlan, RowChange.TheVariants.AddVolume, RowChange.TheVariants.AddSpan, RowChange.TheVariants.SetCeiling, RowChange.TheVariants.SetClosed, RowChange.TheVariants.RemovePlan, RowChange.TheVariants.RemoveSpans, RowChange.TheVariants.EmptyOldVolumes, RowChange.TheVariants.EmptyOldSpans}
 
@@ -122,12 +122,12 @@ TakesOperators operators old new =
 -- a statement that with these parameters changes a desk's b-trees as `Room` says
 pub record TextTakes (text : List ℕ) (params : Row) (Room : Trees → Trees → Type 0) : Type 0 where
   pub room : (limit : Option ℕ) (old new : Database) → IsDesk old
-      → MayWrite text (understood desk_schema text) params limit old new → Room old.trees new.trees
+      → MayWrite text (understood old.schema text) params limit old new → Room old.trees new.trees
 
 -- a statement that with these parameters counts a number of rows as changed for which `Counts` holds
 pub record TextCounts (text : List ℕ) (params : Row) (Counts : ℕ → Tables → Type 0) : Type 0 where
   pub counted : (limit : Option ℕ) (old new : Database) (count : ℕ) → IsDesk old
-      → MayCount text (understood desk_schema text) params limit old new count
+      → MayCount text (understood old.schema text) params limit old new count
       → Counts count (tables_of old.trees)
 
 -- ---- rows that are new

@@ -1,5 +1,5 @@
 -- What stands apart beside the desk's tables takes no part in what is done to these.
-use Rattle.std.proofs.Common.{◌≡◌, ◌≢◌, ◌<◌, ◌≤◌, ◌++◌, ◌||◌, cond, codes, inl, inr, ℕ, Bool, true, false, List, [], ◌∷◌, Option, Some, None, find, append-nil, refl, sym, ap, ap₂, subst, ◌∙◌, arith}
+use Rattle.std.proofs.Common.{◌≡◌, ◌≢◌, ◌<◌, ◌≤◌, ◌++◌, ◌||◌, cond, codes, inl, inr, ℕ, Bool, true, false, List, [], ◌∷◌, Option, Some, None, find, append-nil, refl, sym, ap, ap₂, subst, ◌∙◌, arith, eqb-true}
 use Rattle.std.specs.List.{AllByRecursion, cons_option, filter_map, flat_map, list_all, list_any}
 use Rattle.std.specs.Option.{option_and_then}
 use Rattle.std.proofs.lemmas.Bool.{and_parts, false_from_ne_true, ltb-true, ne_eqb, not-true, not_from_false, or_left, both_ways}
@@ -14,7 +14,7 @@ use Rattle.sqlite_rules.specs.declared.action.Deed.{Deed}
 use Rattle.sqlite_rules.proofs.ListLemmas.{all_from, all_has, some_from, test_from, test_has}
 use Rattle.sqlite_rules.proofs.RuleLemmas.{parent_is_table}
 use Rattle.sqlite_schema.specs.Names.{same_name}
-use Rattle.sqlite_schema.specs.Rules.{ParentKey, is_key_if_to, is_key_of, key_in, key_places, parent_key}
+use Rattle.sqlite_schema.specs.Rules.{ParentKey, is_key_if_to, is_key_of, key_in, key_places, parent_key, guards}
 use Rattle.sqlite_schema.specs.declared.schema.Index.{Index}
 use Rattle.sqlite_schema.specs.declared.schema.Keys.{Keys}
 use Rattle.sqlite_schema.specs.declared.schema.Reference.{Reference}
@@ -184,3 +184,10 @@ module _ {beside : Beside} (away : StandsApart beside) where
       or_left _ _ (not_from_false _ (false_from_ne_true _ (λ named.
       both_ways _ (not-true _ (test_has refers_elsewhere t.references ref (elsewhere t known) k))
       (some_from (λ own. same_name own ref.parent) own_names table.name own named))))))
+
+  -- no index beside is on one of the desk's tables
+  pub unguarded : (table : Table) → table.tree ≤ 13 → (i : Index) → Has beside.indexes i → guards i table ≡ false
+  unguarded table low i known = false_from_ne_true _ (λ on.
+      let same = eqb-true i.table table.tree (and_parts _ _ on).1 in
+      let high = index_behind i known in
+      omega (arith, same, high, low))

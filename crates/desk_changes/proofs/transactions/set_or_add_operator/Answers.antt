@@ -22,6 +22,7 @@ returns-then-is_set-clause-changed g c =
             begun = made.begun;
             committed = made.committed;
             desk = made.desk;
+            beside = made.beside;
             sound = made.sound;
             changed = puts_set c.args.name.now c.args.ceiling count.count _ (count.ensures.counted clean) some _
                 made.changed;
@@ -79,6 +80,7 @@ returns-clause-changed g c =
             begun = last.begun;
             committed = last.committed ∙ first.committed;
             desk = last.desk;
+            beside = last.beside ∙ first.beside;
             sound = last.sound;
             changed = puts_added name ceiling count.count _ (count.ensures.counted early) zero _ first.changed _
                 last.changed;
