@@ -223,7 +223,7 @@ spans_never operator id limit db stop desk sound h =
     (record { schema = desk_in db.schema; trees = db.trees }) e refl)
     (λ rows why. (quiet_out desk.schema.apart) spans_at (spans_referred desk.schema.apart) db.trees (ids_of rows) (obeys.rules Unique)
     ((span_works desk.schema.apart) 0 (taken_by db.trees (edit_of db.trees spans_at (ids_of rows) Given 0 []))) why))
-    (λ w done. (spans_refer desk.schema.apart) db.trees w.trees ((spans_removed desk.schema.apart) operator id limit db w desk done)
+    (λ w done. (spans_refer desk.schema.apart) operator id db.trees w.trees ((spans_removed desk.schema.apart) operator id limit db w desk done)
     (obeyed_refers (desk_in db.schema) db.trees obeys)) h
 
 

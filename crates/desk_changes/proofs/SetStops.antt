@@ -80,9 +80,9 @@ off on = absurd (true≢false (sym on))
 
 -- the keys of tables beside
 module _ {beside : Beside} (away : StandsApart beside) where
-  others : {P : Index → Type 0} (table : Table) → table.tree ≤ 13
+  others : (P : Index → Type 0) (table : Table) → table.tree ≤ 13
       → AllByRecursion (λ i. guards i table ≡ true → P i) beside.indexes
-  others {P} table low = all_from (λ i. guards i table ≡ true → P i) beside.indexes
+  others P table low = all_from (λ i. guards i table ≡ true → P i) beside.indexes
       (λ i known on. off (sym (unguarded away table low i known) ∙ on))
 
 -- ---- an operator's ceiling
@@ -125,7 +125,7 @@ module _ (name : List ℕ) (ceiling : ℕ) (limit : Option ℕ) (old : Database)
                     ∙ sym (ap (λ x. column x 1) (ceiling_set r whole is)),
                 tt,
               )),
-              (off, (off, (off, (off, (off, (off, (off, others desk.schema.apart operator_at (omega arith)))))))),
+              (off, (off, (off, (off, (off, (off, (off, others desk.schema.apart _ operator_at (omega arith)))))))),
             );
             refers = tt;
           };
@@ -208,7 +208,7 @@ module _ (operator id : List ℕ) (priority aircraft : ℕ) (limit : Option ℕ)
               off,
               (
                 (λ on. (closing_key r whole is, (closing_id r whole is, tt))),
-                (off, (off, (off, (off, (off, (off, others desk.schema.apart plan_at (omega arith))))))),
+                (off, (off, (off, (off, (off, (off, others desk.schema.apart _ plan_at (omega arith))))))),
               ),
             );
             refers = ((closing_key r whole is, tt), tt);
