@@ -57,7 +57,8 @@ module _ {beside : Beside} (away : StandsApart beside) where
 
     -- each of its parents is there
     abbrev pub HasParents : Type 0
-    HasParents = AllByRecursion (λ ref. has_parent (desk_with beside).tables db added ref ≡ true) table.references
+    HasParents = AllByRecursion (λ ref. has_parent (desk_with beside).tables db added ref ≡ true)
+        table.references
 
     module _ (room : HasRowids 1 rows) (whole : AllByRecursion (λ r. is_int (rowid r) ≡ true) rows) where
       pub free : is_taken rows added ≡ false
@@ -65,7 +66,8 @@ module _ {beside : Beside} (away : StandsApart beside) where
 
       -- where each row was there or is this one
       module _ (next : Trees) (here : next table.tree ≡ put_row added rows)
-          (others : (t : Table) → Has (desk_with beside).tables t → t.tree ≢ table.tree → next t.tree ≡ db t.tree)
+          (others : (t : Table) → Has (desk_with beside).tables t → t.tree ≢ table.tree → next t.tree
+          ≡ db t.tree)
         where
           from : (t : Table) (row : Row) → Has (desk_with beside).tables t → Has (next t.tree) row
               → ((t ≡ table) × (row ≡ added)) ⊎ Has (db t.tree) row
@@ -118,7 +120,8 @@ module _ {beside : Beside} (away : StandsApart beside) where
                       (subst (λ r. agree i.order i.columns r i.columns row ≡ true) new.1 both.0))
                       (differ_back _ _ (subst (λ r. differ (rowid r) (rowid row) ≡ true) new.1 both.1)))
                   | inr also ↦ absurd (both_ways _ (not-true _ (test_has
-                      (λ i. not (guards i t && clashes i.order i.columns (db t.tree) row)) (desk_with beside).indexes i
+                      (λ i. not (guards i t && clashes i.order i.columns (db t.tree) row))
+                      (desk_with beside).indexes i
                       (keeps_at Unique (desk_with beside) db t row keeps known was) k))
                       (and_from _ _ parts.0 (some_from
                       (λ x. agree i.order i.columns x i.columns row && differ (rowid x) (rowid row)) (db t.tree)
@@ -126,7 +129,8 @@ module _ {beside : Beside} (away : StandsApart beside) where
                 ]
               ]))))
 
-          held_on : (row : Row) (ref : Reference) (o : Option ParentKey) → parent_key (desk_with beside).tables ref ≡ o
+          held_on : (row : Row) (ref : Reference) (o : Option ParentKey)
+              → parent_key (desk_with beside).tables ref ≡ o
               → is_held db ref.columns row o ≡ true → is_held next ref.columns row o ≡ true
           held_on row ref None is h = h
           held_on row ref (Some key) is h =
@@ -148,14 +152,15 @@ module _ {beside : Beside} (away : StandsApart beside) where
           refers_added parents refers = refers_from All (desk_with beside) next (λ t ref row known k is there.
               has_still row ref (elim (from t row known there) [
                 | inl new ↦ subst (λ r. has_parent (desk_with beside).tables db r ref ≡ true) (sym new.1)
-                    (all_has (λ ref. has_parent (desk_with beside).tables db added ref ≡ true) table.references ref
+                    (all_has (λ ref. has_parent (desk_with beside).tables db added ref ≡ true)
+                    table.references ref
                     parents (subst (λ (t : Table). Has t.references ref) new.0 k))
                 | inr was ↦ refers_at All (desk_with beside) db t row ref refers known was k is
               ]))
 
-      pub passes_added : (IsGood away) table db cells → IsLone → Keeps Unique (desk_with beside) db
+      pub passes_added : IsGood away table db cells → IsLone → Keeps Unique (desk_with beside) db
           → list_all (is_key_of (desk_with beside)) table.references ≡ true
-          → (Passes away) db (record { table = table; gone = []; news = added ∷ [] })
+          → Passes away db (record { table = table; gone = []; news = added ∷ [] })
       passes_added good lone keeps refers = record {
         typed = and_from _ _ (good.typed (next_rowid rows)) refl;
         present = and_from _ _ (good.present (next_rowid rows)) refl;

@@ -157,7 +157,8 @@ module _ (name : List ℕ) (ceiling : ℕ) (limit : Option ℕ) (old : Database)
   abbrev operator_trees : Trees
   operator_trees = old.trees
 
-  operator_lone : (IsLone desk.schema.apart) (at 0 operator_table) (inl refl) operator_trees (operator_row name ceiling)
+  operator_lone : IsLone desk.schema.apart (at 0 operator_table) (inl refl) operator_trees
+      (operator_row name ceiling)
   operator_lone i (inl is) on =
       alone (columns 2) (λ r. has_same_key 1 r (operator_row name ceiling)) i _ is _ (operator_trees 0)
       (key_1 (next_rowid (old.trees 0)) (operator_row name ceiling)) fits.1.1
@@ -173,11 +174,13 @@ module _ (name : List ℕ) (ceiling : ℕ) (limit : Option ℕ) (old : Database)
       absurd (true≢false (sym on ∙ unguarded desk.schema.apart (at 0 operator_table) (omega arith) i known))
 
   operator_never : (stop : Option Error)
-      → OnRows ((task_at desk.schema.apart) limit (operator_row name ceiling) operator_table.name operator_table.columns
+      → OnRows (task_at desk.schema.apart limit (operator_row name ceiling) operator_table.name
+      operator_table.columns
       operator_table.primary operator_table.references 0) enforced None
       (Insert 0 (Values insert_operator_terms 3)) old.trees (Err stop)
       → IsAtLimit limit stop
-  operator_never = (never_stops desk.schema.apart) limit (operator_row name ceiling) operator_table.name operator_table.columns
+  operator_never = never_stops desk.schema.apart limit (operator_row name ceiling) operator_table.name
+      operator_table.columns
       operator_table.primary operator_table.references 0 old.trees
       insert_operator_terms 3 (operator_row name ceiling) (record {
         listed = inl refl;
@@ -189,7 +192,7 @@ module _ (name : List ℕ) (ceiling : ℕ) (limit : Option ℕ) (old : Database)
           typed = λ n. refl;
           present = λ n. refl;
           checked = λ n. refl;
-          stored = (operator_stored desk.schema.apart) name ceiling fits.0;
+          stored = operator_stored desk.schema.apart name ceiling fits.0;
         };
         room = fits.1.0;
         whole = desk.operators.whole;
@@ -203,7 +206,7 @@ module _ (p : PlanRecord) (limit : Option ℕ) (old : Database) (desk : IsDesk o
   abbrev plan_trees : Trees
   plan_trees = old.trees
 
-  plan_lone : (IsLone desk.schema.apart) (at 2 plan_table) (inr (inl refl)) plan_trees (plan_row_in p)
+  plan_lone : IsLone desk.schema.apart (at 2 plan_table) (inr (inl refl)) plan_trees (plan_row_in p)
   plan_lone i (inl is) on = off (at 2 plan_table) i _ is refl on
   plan_lone i (inr (inl is)) on =
       alone (columns 5) (λ r. has_same_key 2 r (plan_row_in p)) i _ is _ (plan_trees 2)
@@ -218,10 +221,12 @@ module _ (p : PlanRecord) (limit : Option ℕ) (old : Database) (desk : IsDesk o
       absurd (true≢false (sym on ∙ unguarded desk.schema.apart (at 2 plan_table) (omega arith) i known))
 
   plan_never : (stop : Option Error)
-      → OnRows ((task_at desk.schema.apart) limit (plan_row_in p) plan_table.name plan_table.columns plan_table.primary
+      → OnRows (task_at desk.schema.apart limit (plan_row_in p) plan_table.name plan_table.columns
+      plan_table.primary
       plan_table.references 2) enforced None (Insert 1 (Values insert_plan_terms 6)) old.trees (Err stop)
       → IsAtLimit limit stop
-  plan_never = (never_stops desk.schema.apart) limit (plan_row_in p) plan_table.name plan_table.columns plan_table.primary
+  plan_never = never_stops desk.schema.apart limit (plan_row_in p) plan_table.name plan_table.columns
+      plan_table.primary
       plan_table.references 2 old.trees insert_plan_terms 6 (plan_row_in p) (record {
         listed = inr (inl refl);
         refers = (plan_refers desk.schema.apart);
@@ -233,12 +238,13 @@ module _ (p : PlanRecord) (limit : Option ℕ) (old : Database) (desk : IsDesk o
           typed = λ n. refl;
           present = λ n. refl;
           checked = λ n. refl;
-          stored = (plan_stored desk.schema.apart) p.operator.now p.id.now p.priority p.usage p.aircraft fits.0 fits.1;
+          stored = plan_stored desk.schema.apart p.operator.now p.id.now p.priority p.usage p.aircraft fits.0
+              fits.1;
         };
         room = fits.2.0;
         whole = desk.plans.whole;
         lone = plan_lone;
-        parents = ((operator_there desk.schema.apart) plan_trees _ (plan_row_in p) fits.3, tt);
+        parents = (operator_there desk.schema.apart plan_trees _ (plan_row_in p) fits.3, tt);
         obeys = subst (λ s. Obeys s old.trees) desk.schema.is sound.obeys;
       }) 1
 
@@ -247,7 +253,7 @@ module _ (v : VolumeRecord) (limit : Option ℕ) (old : Database) (desk : IsDesk
   abbrev volume_trees : Trees
   volume_trees = old.trees
 
-  volume_lone : (IsLone desk.schema.apart) (at 9 volume_table) (inr (inr (inr (inr (inl refl))))) volume_trees
+  volume_lone : IsLone desk.schema.apart (at 9 volume_table) (inr (inr (inr (inr (inl refl))))) volume_trees
       (volume_params v)
   volume_lone i (inl is) on = off (at 9 volume_table) i _ is refl on
   volume_lone i (inr (inl is)) on = off (at 9 volume_table) i _ is refl on
@@ -263,11 +269,12 @@ module _ (v : VolumeRecord) (limit : Option ℕ) (old : Database) (desk : IsDesk
       absurd (true≢false (sym on ∙ unguarded desk.schema.apart (at 9 volume_table) (omega arith) i known))
 
   volume_never : (stop : Option Error)
-      → OnRows ((task_at desk.schema.apart) limit (volume_params v) volume_table.name volume_table.columns volume_table.primary
+      → OnRows (task_at desk.schema.apart limit (volume_params v) volume_table.name volume_table.columns
+      volume_table.primary
       volume_table.references 9) enforced None (Insert 4 (Values insert_volume_terms 10)) old.trees
       (Err stop)
       → IsAtLimit limit stop
-  volume_never = (never_stops desk.schema.apart) limit (volume_params v) volume_table.name volume_table.columns
+  volume_never = never_stops desk.schema.apart limit (volume_params v) volume_table.name volume_table.columns
       volume_table.primary volume_table.references 9 old.trees insert_volume_terms 10 (volume_params v)
       (record {
         listed = inr (inr (inr (inr (inl refl))));
@@ -280,12 +287,12 @@ module _ (v : VolumeRecord) (limit : Option ℕ) (old : Database) (desk : IsDesk
           typed = λ n. refl;
           present = λ n. refl;
           checked = λ n. refl;
-          stored = (volume_stored desk.schema.apart) (volume_columns v) v.canon.now fits.0 fits.1 fits.2 fits.3;
+          stored = volume_stored desk.schema.apart (volume_columns v) v.canon.now fits.0 fits.1 fits.2 fits.3;
         };
         room = fits.4.0;
         whole = desk.volumes.whole;
         lone = volume_lone;
-        parents = ((plan_there desk.schema.apart) volume_trees _ (volume_params v) fits.5, tt);
+        parents = (plan_there desk.schema.apart volume_trees _ (volume_params v) fits.5, tt);
         obeys = subst (λ s. Obeys s old.trees) desk.schema.is sound.obeys;
       }) 4
 
@@ -294,7 +301,8 @@ module _ (s : SpanRecord) (limit : Option ℕ) (old : Database) (desk : IsDesk o
   abbrev span_trees : Trees
   span_trees = old.trees
 
-  span_lone : (IsLone desk.schema.apart) (at 11 span_table) (inr (inr (inr (inr (inr (inl refl)))))) span_trees (span_row_in s)
+  span_lone : IsLone desk.schema.apart (at 11 span_table) (inr (inr (inr (inr (inr (inl refl)))))) span_trees
+      (span_row_in s)
   span_lone i (inl is) on = off (at 11 span_table) i _ is refl on
   span_lone i (inr (inl is)) on = off (at 11 span_table) i _ is refl on
   span_lone i (inr (inr (inl is))) on = off (at 11 span_table) i _ is refl on
@@ -309,10 +317,12 @@ module _ (s : SpanRecord) (limit : Option ℕ) (old : Database) (desk : IsDesk o
       absurd (true≢false (sym on ∙ unguarded desk.schema.apart (at 11 span_table) (omega arith) i known))
 
   span_never : (stop : Option Error)
-      → OnRows ((task_at desk.schema.apart) limit (span_row_in s) span_table.name span_table.columns span_table.primary
+      → OnRows (task_at desk.schema.apart limit (span_row_in s) span_table.name span_table.columns
+      span_table.primary
       span_table.references 11) enforced None (Insert 5 (Values insert_span_terms 11)) old.trees (Err stop)
       → IsAtLimit limit stop
-  span_never = (never_stops desk.schema.apart) limit (span_row_in s) span_table.name span_table.columns span_table.primary
+  span_never = never_stops desk.schema.apart limit (span_row_in s) span_table.name span_table.columns
+      span_table.primary
       span_table.references 11 old.trees insert_span_terms 11 (span_row_in s) (record {
         listed = inr (inr (inr (inr (inr (inl refl)))));
         refers = (span_refers desk.schema.apart);
@@ -325,12 +335,12 @@ module _ (s : SpanRecord) (limit : Option ℕ) (old : Database) (desk : IsDesk o
           typed = λ n. refl;
           present = λ n. refl;
           checked = λ n. refl;
-          stored = (span_stored desk.schema.apart) (span_columns s) fits.0 fits.1;
+          stored = span_stored desk.schema.apart (span_columns s) fits.0 fits.1;
         };
         room = fits.2.0;
         whole = desk.spans.whole;
         lone = span_lone;
-        parents = ((plan_there desk.schema.apart) span_trees _ (span_row_in s) fits.3, tt);
+        parents = (plan_there desk.schema.apart span_trees _ (span_row_in s) fits.3, tt);
         obeys = subst (λ s. Obeys s old.trees) desk.schema.is sound.obeys;
       }) 5
 
@@ -340,13 +350,15 @@ pub insert_operator_sure : (name : List ℕ) (ceiling : ℕ) → IsSureChange in
     (operator_row name ceiling) (FitsOperator name (operator_row name ceiling))
 unfolding understood everything
 insert_operator_sure name ceiling =
-    sure_change insert_operator_text (operator_row name ceiling) _ _ insert_operator_is tt (λ beside. refl) (λ beside. omega arith)
+    sure_change insert_operator_text (operator_row name ceiling) _ _ insert_operator_is tt (λ beside. refl)
+    (λ beside. omega arith)
     (λ limit db stop desk sound fits h. operator_never name ceiling limit db desk sound fits stop h)
 
 pub insert_plan_sure : (p : PlanRecord) → IsSureChange insert_plan_text (plan_row_in p)
     (FitsPlan p.operator.now p.id.now (plan_row_in p))
 unfolding understood everything
-insert_plan_sure p = sure_change insert_plan_text (plan_row_in p) _ _ insert_plan_is tt (λ beside. refl) (λ beside. omega arith)
+insert_plan_sure p = sure_change insert_plan_text (plan_row_in p) _ _ insert_plan_is tt (λ beside. refl)
+    (λ beside. omega arith)
     (λ limit db stop desk sound fits h. plan_never p limit db desk sound fits stop h)
 
 pub insert_volume_sure : (v : VolumeRecord) → IsSureChange insert_volume_text (volume_params v)
@@ -359,5 +371,6 @@ insert_volume_sure v = sure_change insert_volume_text (volume_params v) _ _ inse
 pub insert_span_sure : (s : SpanRecord) → IsSureChange insert_span_text (span_row_in s)
     (FitsSpan s.operator.now s.id.now (span_row_in s))
 unfolding understood everything
-insert_span_sure s = sure_change insert_span_text (span_row_in s) _ _ insert_span_is tt (λ beside. refl) (λ beside. omega arith)
+insert_span_sure s = sure_change insert_span_text (span_row_in s) _ _ insert_span_is tt (λ beside. refl)
+    (λ beside. omega arith)
     (λ limit db stop desk sound fits h. span_never s limit db desk sound fits stop h)

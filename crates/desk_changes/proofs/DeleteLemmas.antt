@@ -74,7 +74,7 @@ module _ {beside : Beside} (away : StandsApart beside) where
     pub delete_finds : (terms : List Term) (wanted : Row → Bool) (w : Written) → overlay db [] tree
         ≡ db tree
         → ((r : Row) → list_all (holds (params ∷ r ∷ [])) terms ≡ wanted r)
-        → Deletes ((task_at away) limit params name cols key refs tree)
+        → Deletes (task_at away limit params name cols key refs tree)
         (record { lets = []; body = query_of (inner tree end) terms (col 1 0 ∷ []) [] }) db (Ok w)
         → Finds wanted w.trees
     delete_finds terms wanted w same passes h =

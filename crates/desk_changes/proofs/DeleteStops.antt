@@ -77,7 +77,8 @@ module _ {beside : Beside} (away : StandsApart beside) where
   -- each reference to the table points to a key
   abbrev pub IsReferredTo : Table → Type 0
   IsReferredTo table =
-      list_all (λ (t : Table). list_all (is_key_if_to (desk_with beside) table) t.references) (desk_with beside).tables
+      list_all (λ (t : Table). list_all (is_key_if_to (desk_with beside) table) t.references)
+      (desk_with beside).tables
       ≡ true
 
   module _ (table : Table) (fit : IsReferredTo table) (db : Trees) (gone : List ℤ)
@@ -98,7 +99,8 @@ module _ {beside : Beside} (away : StandsApart beside) where
     not_refused (Violates NotNull) h = cc
     not_refused (Violates Check) h = cc
     not_refused (Violates PrimaryKey) h = cc
-    not_refused (Violates Unique) h = h (unique_fewer (desk_with beside) db _ (λ t row known. were_there t row) keeps)
+    not_refused (Violates Unique) h = h (unique_fewer (desk_with beside) db _
+        (λ t row known. were_there t row) keeps)
     not_refused (Violates ForeignKey) h = h
     not_refused Mismatch h = cc
     not_refused NoRowid h = cc

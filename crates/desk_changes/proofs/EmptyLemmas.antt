@@ -28,7 +28,7 @@ module _ {beside : Beside} (away : StandsApart beside) where
   -- a tree has no rows, and the others have theirs
   pub record Emptied (tree : ℕ) (db next : Trees) : Type 0 where
     pub rows : next tree ≡ []
-    pub others : (Others away) tree db next
+    pub others : Others away tree db next
 
 none_stay : (rows : List Row) → filter (λ r. false) rows ≡ []
 none_stay [] = refl
@@ -41,16 +41,16 @@ module _ {beside : Beside} (away : StandsApart beside) where
   module _ (limit : Option ℕ) (name : List ℕ) (cols : List Column) (key : List ℕ) (refs : List Reference)
       (tree : ℕ) where
     abbrev pub empty_task : Task
-    empty_task = (task_at away) limit [] name cols key refs tree
+    empty_task = task_at away limit [] name cols key refs tree
 
     abbrev pub empty_program : Program
     empty_program = record { lets = []; body = empty_query tree }
 
     pub emptied : (db : Trees) (w : Written) → overlay db [] tree ≡ db tree → AreNumbered (db tree)
-        → (IsQuiet away) tree → Deletes empty_task empty_program db (Ok w) → (Emptied away) tree db w.trees
+        → IsQuiet away tree → Deletes empty_task empty_program db (Ok w) → Emptied away tree db w.trees
     emptied db w same num quiet h =
-        let f = (delete_finds away) limit [] name cols key refs tree db [] (λ r. true) w same (λ r. refl) h in
-        let edit = (delete_edit away) limit [] name cols key refs tree db f.found in
+        let f = delete_finds away limit [] name cols key refs tree db [] (λ r. true) w same (λ r. refl) h in
+        let edit = delete_edit away limit [] name cols key refs tree db f.found in
         let step = one_step (desk_with beside) Enforced db w.trees edit (quiet 0 (taken_by db edit)) f.writes in
         record {
           rows = step.rows ∙ removed (λ r. true) (db tree) f.found num f.are ∙ none_stay (db tree);
@@ -64,17 +64,20 @@ module _ (limit : Option ℕ) (old new : Database) (desk : IsDesk old) where
   -- ---- version 1's volumes
 
   volumes_left : May empty_old_volumes_text [] limit old new
-      → (new.schema ≡ old.schema) × (Emptied desk.schema.apart) 4 db new.trees
+      → (new.schema ≡ old.schema) × Emptied desk.schema.apart 4 db new.trees
   volumes_left h =
-      let task = (empty_task desk.schema.apart) limit old_volume_table.name old_volume_table.columns old_volume_table.primary
+      let task = empty_task desk.schema.apart limit old_volume_table.name old_volume_table.columns
+      old_volume_table.primary
       old_volume_table.references 4 in
       let q : Program = record { lets = []; body = empty_query 4 } in
       let d = did empty_old_volumes_text [] limit old new desk (Delete 2 q) empty_old_volumes_is h in
       let it = rows_written task (Delete 2 q) db d.0 new d.1 in (
         ap (λ (d : Database). d.schema) it.2 ∙ sym desk.schema.is,
-        subst ((Emptied desk.schema.apart) 4 db) (sym (ap (λ (d : Database). d.trees) it.2))
-            ((emptied desk.schema.apart) limit old_volume_table.name old_volume_table.columns old_volume_table.primary
-            old_volume_table.references 4 db it.0 refl desk.old_volumes (old_volume_works desk.schema.apart) it.1),
+        subst (Emptied desk.schema.apart 4 db) (sym (ap (λ (d : Database). d.trees) it.2))
+            (emptied desk.schema.apart limit old_volume_table.name old_volume_table.columns
+            old_volume_table.primary
+            old_volume_table.references 4 db it.0 refl desk.old_volumes (old_volume_works desk.schema.apart)
+            it.1),
       )
 
   pub empty_old_volumes : May empty_old_volumes_text [] limit old new
@@ -107,16 +110,17 @@ module _ (limit : Option ℕ) (old new : Database) (desk : IsDesk old) where
   -- ---- version 1's spans
 
   spans_left : May empty_old_spans_text [] limit old new
-      → (new.schema ≡ old.schema) × (Emptied desk.schema.apart) 6 db new.trees
+      → (new.schema ≡ old.schema) × Emptied desk.schema.apart 6 db new.trees
   spans_left h =
-      let task = (empty_task desk.schema.apart) limit old_span_table.name old_span_table.columns old_span_table.primary
+      let task = empty_task desk.schema.apart limit old_span_table.name old_span_table.columns
+      old_span_table.primary
       old_span_table.references 6 in
       let q : Program = record { lets = []; body = empty_query 6 } in
       let d = did empty_old_spans_text [] limit old new desk (Delete 3 q) empty_old_spans_is h in
       let it = rows_written task (Delete 3 q) db d.0 new d.1 in (
         ap (λ (d : Database). d.schema) it.2 ∙ sym desk.schema.is,
-        subst ((Emptied desk.schema.apart) 6 db) (sym (ap (λ (d : Database). d.trees) it.2))
-            ((emptied desk.schema.apart) limit old_span_table.name old_span_table.columns old_span_table.primary
+        subst (Emptied desk.schema.apart 6 db) (sym (ap (λ (d : Database). d.trees) it.2))
+            (emptied desk.schema.apart limit old_span_table.name old_span_table.columns old_span_table.primary
             old_span_table.references 6 db it.0 refl desk.old_spans (old_span_works desk.schema.apart) it.1),
       )
 

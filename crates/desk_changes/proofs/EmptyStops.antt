@@ -38,13 +38,13 @@ module _ {beside : Beside} (away : StandsApart beside) where
   unfolding everything
   old_volumes_fit trees misfit = true≢false misfit
 
-  old_volumes_refer : (db next : Trees) → (Emptied away) 4 db next → Refers All (desk_with beside) db
+  old_volumes_refer : (db next : Trees) → Emptied away 4 db next → Refers All (desk_with beside) db
       → Refers All (desk_with beside) next
   old_volumes_refer db next left refers =
       let a = left.others in
       let rest = rest_stays away 4 (omega arith) db next a.1.1.1.1.1.1 in
-      (refers_left away) db next
-      rest ((were_there away) db next rest (still_there (db 0) (next 0) (a.0 (unequal _ _ refl)))
+      refers_left away db next
+      rest (were_there away db next rest (still_there (db 0) (next 0) (a.0 (unequal _ _ refl)))
       (still_there (db 2) (next 2) (a.1.0 (unequal _ _ refl)))
       (λ row there. absurd (subst (λ l. Has l row) left.rows there))
       (still_there (db 6) (next 6) (a.1.1.1.0 (unequal _ _ refl)))
@@ -53,13 +53,16 @@ module _ {beside : Beside} (away : StandsApart beside) where
       (λ p had. subst (λ l. Has l p) (sym (a.0 (unequal _ _ refl))) had)
       (λ row p there had _. subst (λ l. Has l p) (sym (a.1.0 (unequal _ _ refl))) had) refers
 
-old_volumes_never : (limit : Option ℕ) (db : Database) (stop : Option Error) → (desk : IsDesk db) → IsDatabase db
-    → OnRows ((empty_task desk.schema.apart) limit old_volume_table.name old_volume_table.columns old_volume_table.primary
+old_volumes_never : (limit : Option ℕ) (db : Database) (stop : Option Error) → (desk : IsDesk db)
+    → IsDatabase db
+    → OnRows (empty_task desk.schema.apart limit old_volume_table.name old_volume_table.columns
+    old_volume_table.primary
     old_volume_table.references 4) enforced None
     (Delete 2 (record { lets = []; body = empty_query 4 })) db.trees (Err stop)
     → IsAtLimit limit stop
 old_volumes_never limit db stop desk sound h =
-    let task = (empty_task desk.schema.apart) limit old_volume_table.name old_volume_table.columns old_volume_table.primary
+    let task = empty_task desk.schema.apart limit old_volume_table.name old_volume_table.columns
+    old_volume_table.primary
     old_volume_table.references 4 in
     let q : Program = record { lets = []; body = empty_query 4 } in
     let obeys = subst (λ s. Obeys s db.trees) desk.schema.is sound.obeys in
@@ -68,16 +71,19 @@ old_volumes_never limit db stop desk sound h =
     (λ e. never (desk_in db.schema) (empty_query 4) [] [] (old_volumes_fit desk.schema.apart)
     (λ trees h. elim h [ inl none ↦ absurd none | inr fold ↦ absurd fold.4 ]) limit
     (record { schema = desk_in db.schema; trees = db.trees }) e refl)
-    (λ rows why. (quiet_out desk.schema.apart) old_volumes_at (old_volumes_referred desk.schema.apart) db.trees (ids_of rows) (obeys.rules Unique)
-    ((old_volume_works desk.schema.apart) 0 (taken_by db.trees (edit_of db.trees old_volumes_at (ids_of rows) Given 0 []))) why))
-    (λ w done. (old_volumes_refer desk.schema.apart) db.trees w.trees
-    ((emptied desk.schema.apart) limit old_volume_table.name old_volume_table.columns old_volume_table.primary
+    (λ rows why. quiet_out desk.schema.apart old_volumes_at (old_volumes_referred desk.schema.apart) db.trees
+    (ids_of rows) (obeys.rules Unique)
+    (old_volume_works desk.schema.apart 0 (taken_by db.trees (edit_of db.trees old_volumes_at (ids_of rows)
+    Given 0 []))) why))
+    (λ w done. old_volumes_refer desk.schema.apart db.trees w.trees
+    (emptied desk.schema.apart limit old_volume_table.name old_volume_table.columns old_volume_table.primary
     old_volume_table.references 4 db.trees w refl desk.old_volumes (old_volume_works desk.schema.apart) done)
     (obeyed_refers (desk_in db.schema) db.trees obeys)) h
 
 pub empty_old_volumes_sure : IsSureChange empty_old_volumes_text [] (λ db. ⊤)
 unfolding understood everything
-empty_old_volumes_sure = sure_change empty_old_volumes_text [] _ _ empty_old_volumes_is tt (λ beside. refl) (λ beside. omega arith)
+empty_old_volumes_sure = sure_change empty_old_volumes_text [] _ _ empty_old_volumes_is tt (λ beside. refl)
+    (λ beside. omega arith)
     (λ limit db stop desk sound fits h. old_volumes_never limit db stop desk sound h)
 
 -- ---- version 1's spans
@@ -87,13 +93,13 @@ module _ {beside : Beside} (away : StandsApart beside) where
   unfolding everything
   old_spans_fit trees misfit = true≢false misfit
 
-  old_spans_refer : (db next : Trees) → (Emptied away) 6 db next → Refers All (desk_with beside) db
+  old_spans_refer : (db next : Trees) → Emptied away 6 db next → Refers All (desk_with beside) db
       → Refers All (desk_with beside) next
   old_spans_refer db next left refers =
       let a = left.others in
       let rest = rest_stays away 6 (omega arith) db next a.1.1.1.1.1.1 in
-      (refers_left away) db next
-      rest ((were_there away) db next rest (still_there (db 0) (next 0) (a.0 (unequal _ _ refl)))
+      refers_left away db next
+      rest (were_there away db next rest (still_there (db 0) (next 0) (a.0 (unequal _ _ refl)))
       (still_there (db 2) (next 2) (a.1.0 (unequal _ _ refl)))
       (still_there (db 4) (next 4) (a.1.1.0 (unequal _ _ refl)))
       (λ row there. absurd (subst (λ l. Has l row) left.rows there))
@@ -103,12 +109,14 @@ module _ {beside : Beside} (away : StandsApart beside) where
       (λ row p there had _. subst (λ l. Has l p) (sym (a.1.0 (unequal _ _ refl))) had) refers
 
 old_spans_never : (limit : Option ℕ) (db : Database) (stop : Option Error) → (desk : IsDesk db) → IsDatabase db
-    → OnRows ((empty_task desk.schema.apart) limit old_span_table.name old_span_table.columns old_span_table.primary
+    → OnRows (empty_task desk.schema.apart limit old_span_table.name old_span_table.columns
+    old_span_table.primary
     old_span_table.references 6) enforced None
     (Delete 3 (record { lets = []; body = empty_query 6 })) db.trees (Err stop)
     → IsAtLimit limit stop
 old_spans_never limit db stop desk sound h =
-    let task = (empty_task desk.schema.apart) limit old_span_table.name old_span_table.columns old_span_table.primary
+    let task = empty_task desk.schema.apart limit old_span_table.name old_span_table.columns
+    old_span_table.primary
     old_span_table.references 6 in
     let q : Program = record { lets = []; body = empty_query 6 } in
     let obeys = subst (λ s. Obeys s db.trees) desk.schema.is sound.obeys in
@@ -117,14 +125,17 @@ old_spans_never limit db stop desk sound h =
     (λ e. never (desk_in db.schema) (empty_query 6) [] [] (old_spans_fit desk.schema.apart)
     (λ trees h. elim h [ inl none ↦ absurd none | inr fold ↦ absurd fold.4 ]) limit
     (record { schema = desk_in db.schema; trees = db.trees }) e refl)
-    (λ rows why. (quiet_out desk.schema.apart) old_spans_at (old_spans_referred desk.schema.apart) db.trees (ids_of rows) (obeys.rules Unique)
-    ((old_span_works desk.schema.apart) 0 (taken_by db.trees (edit_of db.trees old_spans_at (ids_of rows) Given 0 []))) why))
-    (λ w done. (old_spans_refer desk.schema.apart) db.trees w.trees
-    ((emptied desk.schema.apart) limit old_span_table.name old_span_table.columns old_span_table.primary
+    (λ rows why. quiet_out desk.schema.apart old_spans_at (old_spans_referred desk.schema.apart) db.trees
+    (ids_of rows) (obeys.rules Unique)
+    (old_span_works desk.schema.apart 0 (taken_by db.trees (edit_of db.trees old_spans_at (ids_of rows) Given
+    0 []))) why))
+    (λ w done. old_spans_refer desk.schema.apart db.trees w.trees
+    (emptied desk.schema.apart limit old_span_table.name old_span_table.columns old_span_table.primary
     old_span_table.references 6 db.trees w refl desk.old_spans (old_span_works desk.schema.apart) done)
     (obeyed_refers (desk_in db.schema) db.trees obeys)) h
 
 pub empty_old_spans_sure : IsSureChange empty_old_spans_text [] (λ db. ⊤)
 unfolding understood everything
-empty_old_spans_sure = sure_change empty_old_spans_text [] _ _ empty_old_spans_is tt (λ beside. refl) (λ beside. omega arith)
+empty_old_spans_sure = sure_change empty_old_spans_text [] _ _ empty_old_spans_is tt (λ beside. refl)
+    (λ beside. omega arith)
     (λ limit db stop desk sound fits h. old_spans_never limit db stop desk sound h)

@@ -74,66 +74,71 @@ module _ {beside : Beside} (away : StandsApart beside) where
     made r = cast_row table (drop 1 (source r))
 
     abbrev edit : List Row → Edit
-    edit = (update_edit away) limit params name cols key refs tree db
+    edit = update_edit away limit params name cols key refs tree db
 
     pub record IsInPlace : Type 0 where
       pub listed : Has (desk_with beside).tables table
-      pub referred : (IsReferredTo away) table
+      pub referred : IsReferredTo away table
       pub refers : list_all (is_key_of (desk_with beside)) refs ≡ true
       pub alone : overlay db [] tree ≡ db tree
       pub shows : (r : Row) → eval_all project (params ∷ r ∷ []) ≡ source r
       pub finds : (r : Row) → list_all (holds (params ∷ r ∷ [])) terms ≡ wanted r
       pub keeps : (r : Row) → rowid (source r) ≡ rowid r
-      pub sets : (Sets away) table wanted made cells
-      pub good : (IsGood away) table db cells
+      pub sets : Sets away table wanted made cells
+      pub good : IsGood away table db cells
       pub num : AreNumbered (db tree)
       pub low : AreLow (db tree)
       pub obeys : Obeys (desk_with beside) db
       pub quiet : (found : List Row)
           → works (desk_with beside) Enforced 0 tree (taken_by db (edit found)) (edit found).news ≡ []
-      pub sure : (e : Error) → RefusesQuery limit (record { schema = (desk_with beside); trees = db }) program params e
+      pub sure : (e : Error) → RefusesQuery limit (record { schema = (desk_with beside); trees = db }) program
+          params e
           → (e ≡ SqliteFailure code.OperationInterrupted) × IsSome limit
 
     module _ (it : IsInPlace) where
       abbrev news : List Row → List Row
-      news found = (news_of away) limit params name cols key refs tree db found
+      news found = news_of away limit params name cols key refs tree db found
 
       news_are : (found : List Row) → (edit found).news ≡ news found
       news_are found = given_stay (without_all (db tree) (ids_of found)) (news found)
 
       module _ (found : List Row) (are : IsPermutation (map source (filter wanted (db tree))) found) where
         leaves : without_all (db tree) (ids_of found) ≡ filter (λ r. not (wanted r)) (db tree)
-        leaves = (left_is away) limit params name cols key refs tree db wanted source found are it.num it.keeps
+        leaves = left_is away limit params name cols key refs tree db wanted source found are it.num it.keeps
 
         makes : IsPermutation (map made (filter wanted (db tree))) (news found)
-        makes = (made_is away) limit params name cols key refs tree db wanted source found are
+        makes = made_is away limit params name cols key refs tree db wanted source found are
 
-        pass : (Passes away) db (edit found)
-        pass = subst (λ ns. (Passes away) db (record { table = table; gone = ids_of found; news = ns }))
+        pass : Passes away db (edit found)
+        pass = subst (λ ns. Passes away db (record { table = table; gone = ids_of found; news = ns }))
             (sym (news_are found))
-            ((passes_all away) table it.listed it.referred db (news found) wanted made cells it.num it.sets makes
+            (passes_all away table it.listed it.referred db (news found) wanted made cells it.num it.sets makes
             (ids_of found) leaves it.low it.good it.refers (it.obeys.rules Unique))
 
         twins : (next : Trees) → next tree ≡ edited db (edit found) → AreTwins (desk_with beside) table db next
-        twins next is = (twins_of away) table it.listed it.referred db (news found) wanted made cells it.num it.sets
+        twins next is = twins_of away table it.listed it.referred db (news found) wanted made cells it.num
+            it.sets
             makes next (is ∙ ap₂ put_all leaves (news_are found))
 
       pub never_stops : (at : ℕ) (stop : Option Error)
-          → OnRows ((task_at away) limit params name cols key refs tree) enforced None (Update at program) db
+          → OnRows (task_at away limit params name cols key refs tree) enforced None (Update at program) db
           (Err stop)
           → IsAtLimit limit stop
       never_stops at stop =
-          rows_stopped ((task_at away) limit params name cols key refs tree) (Update at program) db stop
+          rows_stopped (task_at away limit params name cols key refs tree) (Update at program) db stop
           (IsAtLimit limit stop)
-          (updates_stopped ((task_at away) limit params name cols key refs tree) program params db stop it.sure
-          (λ found why asked. (passed away) db (edit found) (pass found
-          ((update_finds away) limit params name cols key refs tree db terms project wanted source found it.alone
+          (updates_stopped (task_at away limit params name cols key refs tree) program params db stop it.sure
+          (λ found why asked. passed away db (edit found) (pass found
+          (update_finds away limit params name cols key refs tree db terms project wanted source found it.alone
           it.shows it.finds asked)) (it.quiet found) why))
           (λ w done.
-          let s = (update_sets away) limit params name cols key refs tree db terms project wanted source w it.alone
+          let s = update_sets away limit params name cols key refs tree db terms project wanted source w
+          it.alone
           it.shows it.finds done in
-          let step = one_step (desk_with beside) Enforced db w.trees (edit s.found) (it.quiet s.found) s.writes in
-          (refers_twins away) db w.trees table it.listed
-          (λ t known. all_has (λ (t : Table). t.tree ≢ tree → w.trees t.tree ≡ db t.tree) (desk_with beside).tables t
+          let step = one_step (desk_with beside) Enforced db w.trees (edit s.found) (it.quiet s.found)
+          s.writes in
+          refers_twins away db w.trees table it.listed
+          (λ t known. all_has (λ (t : Table). t.tree ≢ tree → w.trees t.tree ≡ db t.tree)
+          (desk_with beside).tables t
           step.tables known)
           (twins s.found s.are w.trees step.rows) (obeyed_refers (desk_with beside) db it.obeys))

@@ -49,7 +49,7 @@ tables_operator db next a b c d e = rw (a, b, c, d, e)
 module _ {beside : Beside} (away : StandsApart beside) where
   operator_added : (row new : Row) (old now : Database) → columns 2 new ≡ row
       → IsDeskSchema now.schema
-      → (Adds away) 0 new old.trees now.trees → IsDesk old → IsDesk now
+      → Adds away 0 new old.trees now.trees → IsDesk old → IsDesk now
       × AddsOperator row (tables_of old.trees) (tables_of now.trees)
   operator_added row new old now shown schema a desk =
       let e2 : now.trees 2 ≡ old.trees 2 = a.others.1.0 (unequal _ _ refl) in
@@ -98,24 +98,25 @@ module _ (name : List ℕ) (ceiling : ℕ) (limit : Option ℕ) (old new : Datab
       let db = old.trees in
       let d = did insert_operator_text operator_params limit old new desk
       (Insert 0 (Values insert_operator_terms 3)) insert_operator_is h in
-      let it = rows_written ((task_at desk.schema.apart) limit operator_params operator_table.name
+      let it = rows_written (task_at desk.schema.apart limit operator_params operator_table.name
       operator_table.columns
       operator_table.primary operator_table.references 0) (Insert 0 (Values insert_operator_terms 3)) db
       d.0 new d.1 in
-      let done = (insert_applies desk.schema.apart) limit operator_params operator_table.name
+      let done = insert_applies desk.schema.apart limit operator_params operator_table.name
       operator_table.columns
       operator_table.primary operator_table.references 0 insert_operator_terms 3 db it.0
       (Null ∷ operator_params) refl it.1 in
-      let a = (adds desk.schema.apart) operator_table.name operator_table.columns operator_table.primary
+      let a = adds desk.schema.apart operator_table.name operator_table.columns operator_table.primary
       operator_table.references
       0 db it.0.trees (Null ∷ operator_params) done in
       let same : new.schema ≡ old.schema = ap (λ (d : Database). d.schema) it.2 ∙ sym desk.schema.is in
       let now : it.0.trees ≡ new.trees = sym (ap (λ (d : Database). d.trees) it.2) in
       let both =
-      (operator_added desk.schema.apart) (operator_row name ceiling) (with_rowid Chosen (db 0)
+      operator_added desk.schema.apart (operator_row name ceiling) (with_rowid Chosen (db 0)
       (cast_row operator_table (Null ∷ operator_params))) old new (operator_cells (db 0))
       (subst IsDeskSchema (sym same) desk.schema)
-      (subst ((Adds desk.schema.apart) 0 (with_rowid Chosen (db 0) (cast_row operator_table (Null ∷ operator_params))) db)
+      (subst (Adds desk.schema.apart 0 (with_rowid Chosen (db 0)
+      (cast_row operator_table (Null ∷ operator_params))) db)
       now a)
       desk in
       (both.0, both.1, same)
@@ -128,7 +129,7 @@ tables_plan db next a b c d e = rw (a, b, c, d, e)
 module _ {beside : Beside} (away : StandsApart beside) where
   plan_added : (row new : Row) (old now : Database) → columns 5 new ≡ row
       → IsDeskSchema now.schema
-      → (Adds away) 2 new old.trees now.trees → IsDesk old → IsDesk now
+      → Adds away 2 new old.trees now.trees → IsDesk old → IsDesk now
       × AddsPlan row (tables_of old.trees) (tables_of now.trees)
   plan_added row new old now shown schema a desk =
       let e0 : now.trees 0 ≡ old.trees 0 = a.others.0 (unequal _ _ refl) in
@@ -178,30 +179,32 @@ module _ (operator : List ℕ) (id : List ℕ) (priority : ℕ) (usage : ℕ) (a
         → IsDesk new × AddsPlan (plan_row operator id priority usage aircraft)
         (tables_of old.trees)
         (tables_of new.trees)
-      × (new.schema ≡ old.schema)
+        × (new.schema ≡ old.schema)
     insert_plan desk h =
         let db = old.trees in
         let d = did insert_plan_text plan_params limit old new desk
         (Insert 1 (Values insert_plan_terms 6)) insert_plan_is h in
-        let it = rows_written ((task_at desk.schema.apart) limit plan_params plan_table.name plan_table.columns
+        let it = rows_written (task_at desk.schema.apart limit plan_params plan_table.name plan_table.columns
         plan_table.primary plan_table.references 2) (Insert 1 (Values insert_plan_terms 6)) db d.0
         new
         d.1 in
-        let done = (insert_applies desk.schema.apart) limit plan_params plan_table.name plan_table.columns
+        let done = insert_applies desk.schema.apart limit plan_params plan_table.name plan_table.columns
         plan_table.primary plan_table.references 2 insert_plan_terms 6 db it.0 (Null ∷ plan_params) refl
         it.1 in
-        let a = (adds desk.schema.apart) plan_table.name plan_table.columns plan_table.primary plan_table.references 2 db
+        let a = adds desk.schema.apart plan_table.name plan_table.columns plan_table.primary
+        plan_table.references 2 db
         it.0.trees
         (Null ∷ plan_params) done in
         let same : new.schema ≡ old.schema = ap (λ (d : Database). d.schema) it.2 ∙ sym desk.schema.is in
         let now : it.0.trees ≡ new.trees = sym (ap (λ (d : Database). d.trees) it.2) in
         let both =
-        (plan_added desk.schema.apart) (plan_row operator id priority usage aircraft)
+        plan_added desk.schema.apart (plan_row operator id priority usage aircraft)
         (with_rowid Chosen (db 2) (cast_row plan_table (Null ∷ plan_params))) old new
         (plan_cells (db 2)) (subst IsDeskSchema (sym same) desk.schema)
-        (subst ((Adds desk.schema.apart) 2 (with_rowid Chosen (db 2) (cast_row plan_table (Null ∷ plan_params))) db) now a)
+        (subst (Adds desk.schema.apart 2 (with_rowid Chosen (db 2) (cast_row plan_table (Null ∷ plan_params)))
+        db) now a)
         desk in
-      (both.0, both.1, same)
+        (both.0, both.1, same)
 
 tables_volume : (db next : Trees)
     → next 0 ≡ db 0 → next 2 ≡ db 2 → next 4 ≡ db 4 → next 6 ≡ db 6 → next 11 ≡ db 11
@@ -215,7 +218,7 @@ module _ {beside : Beside} (away : StandsApart beside) where
   volume_added : (row cover new : Row) (old now : Database) → columns 8 new ≡ row
       → cover_columns new ≡ cover
       → IsDeskSchema now.schema
-      → (Adds away) 9 new old.trees now.trees → IsDesk old → IsDesk now
+      → Adds away 9 new old.trees now.trees → IsDesk old → IsDesk now
       × AddsVolume row cover (tables_of old.trees) (tables_of now.trees)
   volume_added row cover new old now shown covered schema a desk =
       let e0 : now.trees 0 ≡ old.trees 0 = a.others.0 (unequal _ _ refl) in
@@ -282,23 +285,25 @@ module _ (v : VolumeColumns) (canon : List ℕ) (limit : Option ℕ) (old new : 
       let db = old.trees in
       let d = did insert_volume_text volume_given limit old new desk
       (Insert 4 (Values insert_volume_terms 10)) insert_volume_is h in
-      let it = rows_written ((task_at desk.schema.apart) limit volume_given volume_table.name volume_table.columns
+      let it = rows_written (task_at desk.schema.apart limit volume_given volume_table.name volume_table.columns
       volume_table.primary volume_table.references 9) (Insert 4 (Values insert_volume_terms 10)) db d.0
       new d.1 in
-      let done = (insert_applies desk.schema.apart) limit volume_given volume_table.name volume_table.columns
+      let done = insert_applies desk.schema.apart limit volume_given volume_table.name volume_table.columns
       volume_table.primary volume_table.references 9 insert_volume_terms 10 db it.0
       (Null ∷ volume_given)
       refl it.1 in
-      let a = (adds desk.schema.apart) volume_table.name volume_table.columns volume_table.primary volume_table.references 9
+      let a = adds desk.schema.apart volume_table.name volume_table.columns volume_table.primary
+      volume_table.references 9
       db
       it.0.trees (Null ∷ volume_given) done in
       let same : new.schema ≡ old.schema = ap (λ (d : Database). d.schema) it.2 ∙ sym desk.schema.is in
       let now : it.0.trees ≡ new.trees = sym (ap (λ (d : Database). d.trees) it.2) in
       let both =
-      (volume_added desk.schema.apart) (volume_row v) (cover_row v.operator v.id v.place canon)
+      volume_added desk.schema.apart (volume_row v) (cover_row v.operator v.id v.place canon)
       (with_rowid Chosen (db 9) (cast_row volume_table (Null ∷ volume_given))) old new
       (volume_cells (db 9)) (cover_cells (db 9)) (subst IsDeskSchema (sym same) desk.schema)
-      (subst ((Adds desk.schema.apart) 9 (with_rowid Chosen (db 9) (cast_row volume_table (Null ∷ volume_given))) db) now
+      (subst (Adds desk.schema.apart 9 (with_rowid Chosen (db 9)
+      (cast_row volume_table (Null ∷ volume_given))) db) now
       a) desk in
       (both.0, both.1, same)
 
@@ -310,7 +315,7 @@ tables_span db next a b c d e = rw (a, b, c, d, e)
 module _ {beside : Beside} (away : StandsApart beside) where
   span_added : (row new : Row) (old now : Database) → columns 10 new ≡ row
       → IsDeskSchema now.schema
-      → (Adds away) 11 new old.trees now.trees → IsDesk old → IsDesk now
+      → Adds away 11 new old.trees now.trees → IsDesk old → IsDesk now
       × AddsSpan row (tables_of old.trees) (tables_of now.trees)
   span_added row new old now shown schema a desk =
       let e0 : now.trees 0 ≡ old.trees 0 = a.others.0 (unequal _ _ refl) in
@@ -363,23 +368,25 @@ module _ (s : SpanColumns) (limit : Option ℕ) (old new : Database) where
       let db = old.trees in
       let d = did insert_span_text span_params limit old new desk
       (Insert 5 (Values insert_span_terms 11)) insert_span_is h in
-      let it = rows_written ((task_at desk.schema.apart) limit span_params span_table.name span_table.columns
+      let it = rows_written (task_at desk.schema.apart limit span_params span_table.name span_table.columns
       span_table.primary span_table.references 11) (Insert 5 (Values insert_span_terms 11)) db d.0
       new
       d.1 in
-      let done = (insert_applies desk.schema.apart) limit span_params span_table.name span_table.columns
+      let done = insert_applies desk.schema.apart limit span_params span_table.name span_table.columns
       span_table.primary span_table.references 11 insert_span_terms 11 db it.0 (Null ∷ span_params) refl
       it.1 in
-      let a = (adds desk.schema.apart) span_table.name span_table.columns span_table.primary span_table.references 11 db
+      let a = adds desk.schema.apart span_table.name span_table.columns span_table.primary
+      span_table.references 11 db
       it.0.trees
       (Null ∷ span_params) done in
       let same : new.schema ≡ old.schema = ap (λ (d : Database). d.schema) it.2 ∙ sym desk.schema.is in
       let now : it.0.trees ≡ new.trees = sym (ap (λ (d : Database). d.trees) it.2) in
       let both =
-      (span_added desk.schema.apart) (span_row s)
+      span_added desk.schema.apart (span_row s)
       (with_rowid Chosen (db 11) (cast_row span_table (Null ∷ span_params))) old new
       (span_cells (db 11)) (subst IsDeskSchema (sym same) desk.schema)
-      (subst ((Adds desk.schema.apart) 11 (with_rowid Chosen (db 11) (cast_row span_table (Null ∷ span_params))) db) now a)
+      (subst (Adds desk.schema.apart 11 (with_rowid Chosen (db 11) (cast_row span_table (Null ∷ span_params)))
+      db) now a)
       desk in
       (both.0, both.1, same)
 

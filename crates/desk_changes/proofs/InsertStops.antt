@@ -49,7 +49,7 @@ module _ {beside : Beside} (away : StandsApart beside) where
     table = table_at limit params name cols key refs tree
 
     abbrev task : Task
-    task = (task_at away) limit params name cols key refs tree
+    task = task_at away limit params name cols key refs tree
 
     abbrev source : Row
     source = Null ∷ params
@@ -66,11 +66,11 @@ module _ {beside : Beside} (away : StandsApart beside) where
           (Values terms width) e
           → (e ≡ SqliteFailure code.OperationInterrupted) × IsSome limit
       pub casts : cast_all cols params ≡ cells
-      pub good : (IsGood away) table db cells
+      pub good : IsGood away table db cells
       pub room : HasRowids 1 (db tree)
       pub whole : AllByRecursion (λ r. is_int (rowid r) ≡ true) (db tree)
-      pub lone : (IsLone away) table listed db cells
-      pub parents : (HasParents away) table listed db cells
+      pub lone : IsLone away table listed db cells
+      pub parents : HasParents away table listed db cells
       pub obeys : Obeys (desk_with beside) db
 
     module _ (it : IsAdded) where
@@ -79,13 +79,14 @@ module _ {beside : Beside} (away : StandsApart beside) where
           (v ∷ cast_all cols params) ∷ []) cast_null
           ∙ ap (λ cs. (Int (next_rowid (db tree)) ∷ cs) ∷ []) it.casts
 
-      pass : (Passes away) db (edit (source ∷ []))
-      pass = subst (λ ns. (Passes away) db (record { table = table; gone = []; news = ns })) (sym news_are)
-          ((passes_added away) table it.listed db cells it.room it.whole it.good it.lone (it.obeys.rules Unique)
+      pass : Passes away db (edit (source ∷ []))
+      pass = subst (λ ns. Passes away db (record { table = table; gone = []; news = ns })) (sym news_are)
+          (passes_added away table it.listed db cells it.room it.whole it.good it.lone (it.obeys.rules Unique)
           it.refers)
 
-      never_made : (why : Option Refusal) → ¬ Writes (desk_with beside) Enforced db (edit (source ∷ [])) (Err why)
-      never_made = (passed away) db (edit (source ∷ [])) pass
+      never_made : (why : Option Refusal) → ¬ Writes (desk_with beside) Enforced db (edit (source ∷ []))
+          (Err why)
+      never_made = passed away db (edit (source ∷ [])) pass
           (no_works (desk_with beside) Enforced 0 tree (edit (source ∷ [])).news)
 
       sourced : (stop : Option Error) → Sourced limit (record { schema = (desk_with beside); trees = db })
@@ -111,8 +112,10 @@ module _ {beside : Beside} (away : StandsApart beside) where
           rows_stopped task (Insert at (Values terms width)) db stop (IsAtLimit limit stop)
           (inserts_stopped stop)
           (λ w done.
-          let step = (insert_applies away) limit params name cols key refs tree terms width db w source it.one done in
-          (refers_added away) table it.listed db cells it.room it.whole w.trees
+          let step = insert_applies away limit params name cols key refs tree terms width db w source it.one
+          done in
+          refers_added away table it.listed db cells it.room it.whole w.trees
           (step.rows ∙ ap (λ ns. Rattle.sqlite.specs.Edit.put_all (db tree) ns) news_are)
-          (λ t known. all_has (λ (t : Table). t.tree ≢ tree → w.trees t.tree ≡ db t.tree) (desk_with beside).tables t
+          (λ t known. all_has (λ (t : Table). t.tree ≢ tree → w.trees t.tree ≡ db t.tree)
+          (desk_with beside).tables t
           step.tables known) it.parents (obeyed_refers (desk_with beside) db it.obeys))

@@ -57,7 +57,7 @@ module _ {beside : Beside} (away : StandsApart beside) where
     passed quiet why (inr (inl (row, there, big, is))) = absurd (pass.stored row there big)
     passed quiet why (inr (inr (next, applies, settles))) =
         let settled = subst (λ ws. Settles (desk_with beside) Enforced next ws (Err why)) quiet settles in
-        (never_ends away) settled.0 next why settled.1
+        never_ends away settled.0 next why settled.1
 
 -- ---- one tree in place of another
 
@@ -74,7 +74,8 @@ module _ {beside : Beside} (away : StandsApart beside) where
   -- where each row has its twin, each foreign key that held still holds
   pub refers_twins : (old new : Trees) (table : Table) → Has (desk_with beside).tables table
       → ((t : Table) → Has (desk_with beside).tables t → t.tree ≢ table.tree → new t.tree ≡ old t.tree)
-      → AreTwins (desk_with beside) table old new → Refers All (desk_with beside) old → Refers All (desk_with beside) new
+      → AreTwins (desk_with beside) table old new → Refers All (desk_with beside) old
+      → Refers All (desk_with beside) new
   refers_twins old new table listed others twins refers = refers_from All (desk_with beside) new
       (λ t ref row known k is there.
       let was = twin_of (desk_with beside) old new table listed apart others twins t row known there in

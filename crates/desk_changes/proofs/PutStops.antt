@@ -122,7 +122,8 @@ module _ (operator id : List ℕ) where
           or_from _ _ (not_null (column r 1) operator mine.0)
           (or_from _ _ (not_null (column r 2) id mine.1) refl)
 
-      orphan : (r : Row) → has_key operator id r ≡ true → ¬ (has_parent (desk_with beside).tables db r to_plan ≡ true)
+      orphan : (r : Row) → has_key operator id r ≡ true → ¬ (has_parent (desk_with beside).tables db r to_plan
+          ≡ true)
       orphan r own h = elim (or_cases (has_null key_places r) _ h) [
         | inl null ↦ both_ways _ (no_null r own) null
         | inr held ↦ both_ways _

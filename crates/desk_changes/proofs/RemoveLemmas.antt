@@ -93,7 +93,7 @@ module _ {beside : Beside} (away : StandsApart beside) where
     params = Text operator ∷ Text id ∷ []
 
     abbrev pub spans_task : Task
-    spans_task = (task_at away) limit params span_table.name span_table.columns span_table.primary
+    spans_task = task_at away limit params span_table.name span_table.columns span_table.primary
         span_table.references 11
 
     abbrev pub spans_program : Program
@@ -103,12 +103,12 @@ module _ {beside : Beside} (away : StandsApart beside) where
         → Deletes spans_task spans_program old.trees (Ok w) → AreSpared operator id old.trees w.trees
     spans_removed old w desk h =
         let db = old.trees in
-        let f = (delete_finds away) limit params span_table.name span_table.columns span_table.primary
+        let f = delete_finds away limit params span_table.name span_table.columns span_table.primary
         span_table.references 11 db remove_spans_query.filter (has_key operator id) w refl
         (by_key operator id) h in
-        let edit = (delete_edit away) limit params span_table.name span_table.columns span_table.primary
+        let edit = delete_edit away limit params span_table.name span_table.columns span_table.primary
         span_table.references 11 db f.found in
-        let step = one_step (desk_with beside) Enforced db w.trees edit ((span_works away) 0 (taken_by db edit))
+        let step = one_step (desk_with beside) Enforced db w.trees edit (span_works away 0 (taken_by db edit))
         f.writes
         in
         record {
@@ -127,11 +127,11 @@ module _ (operator id : List ℕ) (limit : Option ℕ) (old new : Database) wher
       × (new.schema ≡ old.schema)
   remove_spans desk h =
       let db = old.trees in
-      let q = (spans_program desk.schema.apart) operator id limit in
+      let q = spans_program desk.schema.apart operator id limit in
       let d = did remove_spans_text (key_row operator id) limit old new desk (Delete 5 q)
       remove_spans_is h in
-      let it = rows_written ((spans_task desk.schema.apart) operator id limit) (Delete 5 q) db d.0 new d.1 in
-      let left = (spans_removed desk.schema.apart) operator id limit old it.0 desk it.1 in
+      let it = rows_written (spans_task desk.schema.apart operator id limit) (Delete 5 q) db d.0 new d.1 in
+      let left = spans_removed desk.schema.apart operator id limit old it.0 desk it.1 in
       let same : new.schema ≡ old.schema = ap (λ (d : Database). d.schema) it.2 ∙ sym desk.schema.is in
       let now : new.trees ≡ it.0.trees = ap (λ (d : Database). d.trees) it.2 in
       let e0 : new.trees 0 ≡ db 0 = ap (λ (t : Trees). t 0) now ∙ left.operators in
@@ -182,7 +182,7 @@ module _ {beside : Beside} (away : StandsApart beside) where
     moves = pairs olds []
 
     goes : (table : Table) → some olds ≡ true → (rows : List Row)
-        → filter (λ r. not ((child_of away) moves table r)) rows
+        → filter (λ r. not (child_of away moves table r)) rows
         ≡ filter (λ r. not (has_key operator id r)) rows
     goes table is rows = filter_same _ _ (λ r. ap not
         (children_are (delete_on table moves) refl refl refl operator id r olds all
@@ -192,7 +192,7 @@ module _ {beside : Beside} (away : StandsApart beside) where
         → Settles (desk_with beside) Enforced mid (cond b (plan_actions moves) []) (Ok next)
         → AreLeft operator id b mid next
     all_left false none h =
-        let same : next ≡ mid = sym ((ended away) moves next h.0 mid h.1) in
+        let same : next ≡ mid = sym (ended away moves next h.0 mid h.1) in
         record {
           operators = ap (λ (t : Trees). t 0) same;
           plans = ap (λ (t : Trees). t 2) same;
@@ -203,7 +203,7 @@ module _ {beside : Beside} (away : StandsApart beside) where
           rest = λ t known. ap (λ (trees : Trees). trees t.tree) same;
         }
     all_left true is h =
-        let done = (all_go away) moves next h.0 mid four six nine eleven h.1 in
+        let done = all_go away moves next h.0 mid four six nine eleven h.1 in
         record {
           operators = done.operators;
           plans = done.plans;
@@ -229,7 +229,7 @@ module _ {beside : Beside} (away : StandsApart beside) where
     plan_params = Text operator ∷ Text id ∷ []
 
     abbrev pub plan_task : Task
-    plan_task = (task_at away) limit plan_params plan_table.name plan_table.columns plan_table.primary
+    plan_task = task_at away limit plan_params plan_table.name plan_table.columns plan_table.primary
         plan_table.references 2
 
     abbrev pub plan_program : Program
@@ -240,14 +240,14 @@ module _ {beside : Beside} (away : StandsApart beside) where
         → AreCut operator id (list_any (has_key operator id) (old.trees 2)) old.trees w.trees
     plan_removed old w desk h =
         let db = old.trees in
-        let f = (delete_finds away) limit plan_params plan_table.name plan_table.columns
+        let f = delete_finds away limit plan_params plan_table.name plan_table.columns
         plan_table.primary
         plan_table.references 2 db remove_plan_query.filter (has_key operator id) w refl
         (by_key operator id) h in
-        let edit = (delete_edit away) limit plan_params plan_table.name plan_table.columns
+        let edit = delete_edit away limit plan_params plan_table.name plan_table.columns
         plan_table.primary
         plan_table.references 2 db f.found in
-        let step = (stepped away) (Settles (desk_with beside) Enforced) db edit 0 [] w.trees f.writes in
+        let step = stepped away (Settles (desk_with beside) Enforced) db edit 0 [] w.trees f.writes in
         let mid = step.0 in
         let olds = map (row_at (db 2)) (ids_of f.found) in
         let all = olds_pass (has_key operator id) (db 2) f.found desk.plans f.are in
@@ -261,7 +261,7 @@ module _ {beside : Beside} (away : StandsApart beside) where
         let m2 : mid 2 ≡ filter (λ r. not (has_key operator id r)) (db 2) = step.1.rows
         ∙ removed (has_key operator id) (db 2) f.found desk.plans f.are in
         let settled = subst (λ ws. Settles (desk_with beside) Enforced mid ws (Ok w.trees))
-        ((plan_works away) olds b (all_lost operator id olds all ∙ is)) step.2 in
+        (plan_works away olds b (all_lost operator id olds all ∙ is)) step.2 in
         let left = all_left operator id olds all mid w.trees (subst AreNumbered (sym m4) desk.old_volumes)
         (subst AreNumbered (sym m6) desk.old_spans) (subst AreNumbered (sym m9) desk.volumes)
         (subst AreNumbered (sym m11) desk.spans) b is settled in
@@ -272,7 +272,8 @@ module _ {beside : Beside} (away : StandsApart beside) where
           old_spans = left.old_spans ∙ ap (cut_by operator id b) m6;
           volumes = left.volumes ∙ ap (cut_by operator id b) m9;
           spans = left.spans ∙ ap (cut_by operator id b) m11;
-          rest = λ t known. left.rest t known ∙ rest_stays away 2 (omega arith) db mid step.1.tables.1.1.1.1.1.1 t known;
+          rest = λ t known. left.rest t known ∙ rest_stays away 2 (omega arith) db mid
+              step.1.tables.1.1.1.1.1.1 t known;
         }
 
 module _ (operator id : List ℕ) (limit : Option ℕ) (old new : Database) where
@@ -281,11 +282,11 @@ module _ (operator id : List ℕ) (limit : Option ℕ) (old new : Database) wher
       × (new.schema ≡ old.schema)
   remove_plan desk h =
       let db = old.trees in
-      let q = (plan_program desk.schema.apart) operator id limit in
+      let q = plan_program desk.schema.apart operator id limit in
       let d = did remove_plan_text (key_row operator id) limit old new desk (Delete 1 q)
       remove_plan_is h in
-      let it = rows_written ((plan_task desk.schema.apart) operator id limit) (Delete 1 q) db d.0 new d.1 in
-      let left = (plan_removed desk.schema.apart) operator id limit old it.0 desk it.1 in
+      let it = rows_written (plan_task desk.schema.apart operator id limit) (Delete 1 q) db d.0 new d.1 in
+      let left = plan_removed desk.schema.apart operator id limit old it.0 desk it.1 in
       let b = list_any (has_key operator id) (db 2) in
       let lacks = λ (r : Row). not (has_key operator id r) in
       let same : new.schema ≡ old.schema = ap (λ (d : Database). d.schema) it.2 ∙ sym desk.schema.is in

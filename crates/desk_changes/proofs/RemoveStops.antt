@@ -58,23 +58,23 @@ module _ {beside : Beside} (away : StandsApart beside) where
 
   -- ---- the spans of a plan
 
-  pub old_volumes_referred : (IsReferredTo away) old_volumes_at
+  pub old_volumes_referred : IsReferredTo away old_volumes_at
   unfolding everything
   old_volumes_referred = others_fit away old_volumes_at (inr (inr (inl refl)))
 
-  pub old_spans_referred : (IsReferredTo away) old_spans_at
+  pub old_spans_referred : IsReferredTo away old_spans_at
   unfolding everything
   old_spans_referred = others_fit away old_spans_at (inr (inr (inr (inl refl))))
 
-  volumes_referred : (IsReferredTo away) volumes_at
+  volumes_referred : IsReferredTo away volumes_at
   unfolding everything
   volumes_referred = others_fit away volumes_at (inr (inr (inr (inr (inl refl)))))
 
-  spans_referred : (IsReferredTo away) spans_at
+  spans_referred : IsReferredTo away spans_at
   unfolding everything
   spans_referred = others_fit away spans_at (inr (inr (inr (inr (inr (inl refl))))))
 
-  plan_referred : (IsReferredTo away) plan_at
+  plan_referred : IsReferredTo away plan_at
   unfolding everything
   plan_referred = others_fit away plan_at (inr (inl refl))
 
@@ -91,11 +91,11 @@ module _ {beside : Beside} (away : StandsApart beside) where
     abbrev lacks : Row → Bool
     lacks r = not (has_key operator id r)
 
-    spans_refer : (db next : Trees) → (AreSpared away) operator id db next → Refers All (desk_with beside) db
+    spans_refer : (db next : Trees) → AreSpared away operator id db next → Refers All (desk_with beside) db
         → Refers All (desk_with beside) next
     spans_refer db next left refers =
-        (refers_left away) db next
-        left.rest ((were_there away) db next left.rest (still_there (db 0) (next 0) left.operators)
+        refers_left away db next
+        left.rest (were_there away db next left.rest (still_there (db 0) (next 0) left.operators)
         (still_there (db 2) (next 2) left.plans) (still_there (db 4) (next 4) left.old_volumes)
         (still_there (db 6) (next 6) left.old_spans) (still_there (db 9) (next 9) left.volumes)
         (same_or_less (db 11) (next 11) lacks true left.spans))
@@ -109,11 +109,11 @@ module _ {beside : Beside} (away : StandsApart beside) where
     has_key_at row p is same = sym (agrees operator id row p is)
         ∙ agree_back plain key_places key_places p row same
 
-    plan_refers : (db next : Trees) → (AreCut away) operator id (list_any (has_key operator id) (db 2)) db next
+    plan_refers : (db next : Trees) → AreCut away operator id (list_any (has_key operator id) (db 2)) db next
         → Refers All (desk_with beside) db → Refers All (desk_with beside) next
     plan_refers db next left refers =
-        (refers_left away) db next
-        left.rest ((were_there away) db next left.rest (still_there (db 0) (next 0) left.operators)
+        refers_left away db next
+        left.rest (were_there away db next left.rest (still_there (db 0) (next 0) left.operators)
         (same_or_less (db 2) (next 2) lacks true left.plans)
         (same_or_less (db 4) (next 4) lacks _ left.old_volumes)
         (same_or_less (db 6) (next 6) lacks _ left.old_spans)
@@ -149,14 +149,17 @@ module _ {beside : Beside} (away : StandsApart beside) where
 
   module _ (moves : List (Row × Row)) (why : Option Refusal) where
     -- one action, and what is left to do
-    one_gone : (n : ℕ) (db : Trees) (table : TablesPresent) → (IsReferredTo away) table → (IsQuiet away) table.tree
+    one_gone : (n : ℕ) (db : Trees) (table : TablesPresent) → IsReferredTo away table → IsQuiet away table.tree
         → (below : List Work) (ids : List ℤ) → Keeps Unique (desk_with beside) db
-        → ActsOn (desk_with beside) Enforced (Leads (desk_with beside) Enforced n) db (delete_on table moves) below (Err why)
+        → ActsOn (desk_with beside) Enforced (Leads (desk_with beside) Enforced n) db (delete_on table moves)
+        below (Err why)
         ids
-        → (mid : Trees) × Keeps Unique (desk_with beside) mid × Leads (desk_with beside) Enforced n mid below (Err why)
+        → (mid : Trees) × Keeps Unique (desk_with beside) mid
+        × Leads (desk_with beside) Enforced n mid below (Err why)
     one_gone n db table referred quiet below [] keeps h = (db, keeps, h)
     one_gone n db table referred quiet below (id ∷ ids) keeps h =
-        let done = (taken_out away) table referred db (id ∷ ids) keeps (Leads (desk_with beside) Enforced n) 1 below why h in
+        let done = taken_out away table referred db (id ∷ ids) keeps (Leads (desk_with beside) Enforced n) 1
+        below why h in
         let rest = ap (λ ws. below ++ ws) (quiet 1 (taken_by db (edit_of db table (id ∷ ids) Given 0 [])))
         ∙ append-nil below in (
           done.0,
@@ -170,9 +173,10 @@ module _ {beside : Beside} (away : StandsApart beside) where
         → ¬ Leads (desk_with beside) Enforced n db works (Err why)
 
     none_end : AreMade []
-    none_end n db keeps h = (never_ends away) n db why h
+    none_end n db keeps h = never_ends away n db why h
 
-    one_ends : (table : TablesPresent) → (IsReferredTo away) table → (IsQuiet away) table.tree → (before : List Work)
+    one_ends : (table : TablesPresent) → IsReferredTo away table → IsQuiet away table.tree
+        → (before : List Work)
         → AreMade before → AreMade (before ++ delete_on table moves ∷ [])
     one_ends table referred quiet before ends zero db keeps h =
         none_last before (delete_on table moves) h.0
@@ -180,7 +184,8 @@ module _ {beside : Beside} (away : StandsApart beside) where
         let last = last_is before h.0 (delete_on table moves) h.1 h.2 in
         let acts = subst (λ ws. Acts (desk_with beside) Enforced (Leads (desk_with beside) Enforced n) db
         (delete_on table moves) ws (Err why)) last.0
-        (subst (λ w. Acts (desk_with beside) Enforced (Leads (desk_with beside) Enforced n) db w h.0 (Err why)) last.1
+        (subst (λ w. Acts (desk_with beside) Enforced (Leads (desk_with beside) Enforced n) db w h.0
+        (Err why)) last.1
         h.3) in
         let done = one_gone n db table referred quiet before acts.0 keeps acts.2 in
         ends n done.0 done.1 done.2
@@ -198,50 +203,65 @@ module _ {beside : Beside} (away : StandsApart beside) where
     some_end : (db : Trees) (b : Bool) → Keeps Unique (desk_with beside) db
         → ¬ Settles (desk_with beside) Enforced db (cond b (plan_actions moves) []) (Err why)
     some_end db true keeps h = all_end h.0 db keeps h.1
-    some_end db false keeps h = (never_ends away) h.0 db why h.1
+    some_end db false keeps h = never_ends away h.0 db why h.1
 
   plan_goes : (db : Trees) (gone : List ℤ) (why : Option Refusal) → Keeps Unique (desk_with beside) db
       → ¬ Writes (desk_with beside) Enforced db (edit_of db plan_at gone Given 0 []) (Err why)
   plan_goes db gone why keeps h =
-      let done = (taken_out away) plan_at (plan_referred away) db gone keeps (Settles (desk_with beside) Enforced) 0 [] why h in
+      let done = taken_out away plan_at (plan_referred away) db gone keeps
+      (Settles (desk_with beside) Enforced) 0 [] why h in
       let olds = taken_by db (edit_of db plan_at gone Given 0 []) in
       let b = list_any (loses plain key_places) (pairs olds []) in
       some_end (pairs olds []) why done.0 b (done.1.fits.rules Unique (λ e. cc))
-      (subst (λ ws. Settles (desk_with beside) Enforced done.0 ws (Err why)) ((plan_works away) olds b refl) done.2)
+      (subst (λ ws. Settles (desk_with beside) Enforced done.0 ws (Err why)) (plan_works away olds b refl)
+      done.2)
 
-spans_never : (operator id : List ℕ) (limit : Option ℕ) (db : Database) (stop : Option Error) → (desk : IsDesk db) → IsDatabase db
-    → OnRows ((spans_task desk.schema.apart) operator id limit) enforced None (Delete 5 ((spans_program desk.schema.apart) operator id limit))
+spans_never : (operator id : List ℕ) (limit : Option ℕ) (db : Database) (stop : Option Error)
+    → (desk : IsDesk db) → IsDatabase db
+    → OnRows (spans_task desk.schema.apart operator id limit) enforced None
+    (Delete 5 (spans_program desk.schema.apart operator id limit))
     db.trees (Err stop)
     → IsAtLimit limit stop
 spans_never operator id limit db stop desk sound h =
     let obeys = subst (λ s. Rattle.sqlite_schema.specs.Rules.Obeys s db.trees) desk.schema.is sound.obeys in
-    rows_stopped ((spans_task desk.schema.apart) operator id limit) (Delete 5 ((spans_program desk.schema.apart) operator id limit)) db.trees stop
+    rows_stopped (spans_task desk.schema.apart operator id limit)
+    (Delete 5 (spans_program desk.schema.apart operator id limit)) db.trees stop
     (IsAtLimit limit stop)
-    (deletes_stopped ((spans_task desk.schema.apart) operator id limit) ((spans_program desk.schema.apart) operator id limit) db.trees stop
-    (λ e. never (desk_in db.schema) remove_spans_query [] (key_row operator id) ((spans_fit desk.schema.apart) operator id)
+    (deletes_stopped (spans_task desk.schema.apart operator id limit)
+    (spans_program desk.schema.apart operator id limit) db.trees stop
+    (λ e. never (desk_in db.schema) remove_spans_query [] (key_row operator id)
+    (spans_fit desk.schema.apart operator id)
     (λ trees h. elim h [ inl none ↦ absurd none | inr fold ↦ absurd fold.4 ]) limit
     (record { schema = desk_in db.schema; trees = db.trees }) e refl)
-    (λ rows why. (quiet_out desk.schema.apart) spans_at (spans_referred desk.schema.apart) db.trees (ids_of rows) (obeys.rules Unique)
-    ((span_works desk.schema.apart) 0 (taken_by db.trees (edit_of db.trees spans_at (ids_of rows) Given 0 []))) why))
-    (λ w done. (spans_refer desk.schema.apart) operator id db.trees w.trees ((spans_removed desk.schema.apart) operator id limit db w desk done)
+    (λ rows why. quiet_out desk.schema.apart spans_at (spans_referred desk.schema.apart) db.trees
+    (ids_of rows) (obeys.rules Unique)
+    (span_works desk.schema.apart 0 (taken_by db.trees (edit_of db.trees spans_at (ids_of rows) Given 0 [])))
+    why))
+    (λ w done. spans_refer desk.schema.apart operator id db.trees w.trees
+    (spans_removed desk.schema.apart operator id limit db w desk done)
     (obeyed_refers (desk_in db.schema) db.trees obeys)) h
 
-
-plan_never : (operator id : List ℕ) (limit : Option ℕ) (db : Database) (stop : Option Error) → (desk : IsDesk db)
+plan_never : (operator id : List ℕ) (limit : Option ℕ) (db : Database) (stop : Option Error)
+    → (desk : IsDesk db)
     → IsDatabase db
-    → OnRows ((plan_task desk.schema.apart) operator id limit) enforced None (Delete 1 ((plan_program desk.schema.apart) operator id limit))
+    → OnRows (plan_task desk.schema.apart operator id limit) enforced None
+    (Delete 1 (plan_program desk.schema.apart operator id limit))
     db.trees (Err stop)
     → IsAtLimit limit stop
 plan_never operator id limit db stop desk sound h =
     let obeys = subst (λ s. Rattle.sqlite_schema.specs.Rules.Obeys s db.trees) desk.schema.is sound.obeys in
-    rows_stopped ((plan_task desk.schema.apart) operator id limit) (Delete 1 ((plan_program desk.schema.apart) operator id limit)) db.trees stop
+    rows_stopped (plan_task desk.schema.apart operator id limit)
+    (Delete 1 (plan_program desk.schema.apart operator id limit)) db.trees stop
     (IsAtLimit limit stop)
-    (deletes_stopped ((plan_task desk.schema.apart) operator id limit) ((plan_program desk.schema.apart) operator id limit) db.trees stop
-    (λ e. never (desk_in db.schema) remove_plan_query [] (key_row operator id) ((plan_fits desk.schema.apart) operator id)
+    (deletes_stopped (plan_task desk.schema.apart operator id limit)
+    (plan_program desk.schema.apart operator id limit) db.trees stop
+    (λ e. never (desk_in db.schema) remove_plan_query [] (key_row operator id)
+    (plan_fits desk.schema.apart operator id)
     (λ trees h. elim h [ inl none ↦ absurd none | inr fold ↦ absurd fold.4 ]) limit
     (record { schema = desk_in db.schema; trees = db.trees }) e refl)
-    (λ rows why. (plan_goes desk.schema.apart) db.trees (ids_of rows) why (obeys.rules Unique)))
-    (λ w done. (plan_refers desk.schema.apart) operator id db.trees w.trees ((plan_removed desk.schema.apart) operator id limit db w desk done)
+    (λ rows why. plan_goes desk.schema.apart db.trees (ids_of rows) why (obeys.rules Unique)))
+    (λ w done. plan_refers desk.schema.apart operator id db.trees w.trees
+    (plan_removed desk.schema.apart operator id limit db w desk done)
     (obeyed_refers (desk_in db.schema) db.trees obeys)) h
 
 -- ---- the texts
@@ -250,12 +270,14 @@ pub remove_spans_sure : (operator id : List ℕ)
     → IsSureChange remove_spans_text (key_row operator id) (λ db. ⊤)
 unfolding understood everything
 remove_spans_sure operator id =
-    sure_change remove_spans_text (key_row operator id) _ _ remove_spans_is tt (λ beside. refl) (λ beside. omega arith)
+    sure_change remove_spans_text (key_row operator id) _ _ remove_spans_is tt (λ beside. refl)
+    (λ beside. omega arith)
     (λ limit db stop desk sound fits h. spans_never operator id limit db stop desk sound h)
 
 pub remove_plan_sure : (operator id : List ℕ)
     → IsSureChange remove_plan_text (key_row operator id) (λ db. ⊤)
 unfolding understood everything
 remove_plan_sure operator id =
-    sure_change remove_plan_text (key_row operator id) _ _ remove_plan_is tt (λ beside. refl) (λ beside. omega arith)
+    sure_change remove_plan_text (key_row operator id) _ _ remove_plan_is tt (λ beside. refl)
+    (λ beside. omega arith)
     (λ limit db stop desk sound fits h. plan_never operator id limit db stop desk sound h)

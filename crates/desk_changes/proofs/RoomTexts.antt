@@ -48,18 +48,20 @@ module _ {beside : Beside} (away : StandsApart beside) where
     -- what an INSERT of one row adds
     pub row_added : (at : ℕ) (terms : List Term) (width : ℕ) (tally : Tally) (now : Database)
         → value_rows (params ++ []) width (length terms / width) terms ≡ (Null ∷ params) ∷ []
-        → OnRows ((task_at away) limit params name cols key refs tree) enforced None
+        → OnRows (task_at away limit params name cols key refs tree) enforced None
         (Insert at (Values terms width)) db
-        (Ok (tally, now)) → (Adds away) tree numbered db now.trees
+        (Ok (tally, now)) → Adds away tree numbered db now.trees
     row_added at terms width tally now one h =
-        let it = rows_written ((task_at away) limit params name cols key refs tree) (Insert at (Values terms width)) db
+        let it = rows_written (task_at away limit params name cols key refs tree)
+        (Insert at (Values terms width)) db
         tally now h in
-        let done = (insert_applies away) limit params name cols key refs tree terms width db it.0 (Null ∷ params) one
+        let done = insert_applies away limit params name cols key refs tree terms width db it.0
+        (Null ∷ params) one
         it.1 in
-        subst ((Adds away) tree numbered db) (sym (ap (λ (d : Database). d.trees) it.2))
-        ((adds away) name cols key refs tree db it.0.trees (Null ∷ params) done)
+        subst (Adds away tree numbered db) (sym (ap (λ (d : Database). d.trees) it.2))
+        (adds away name cols key refs tree db it.0.trees (Null ∷ params) done)
 
-    pub room_taken : (now : Trees) (left : ℕ) → AreWhole (db tree) → (Adds away) tree numbered db now
+    pub room_taken : (now : Trees) (left : ℕ) → AreWhole (db tree) → Adds away tree numbered db now
         → HasRoomFor (1 + left) (db tree) → HasRoomFor left (now tree)
     room_taken now left whole a room = subst (HasRoomFor left) (sym a.at)
         (room_put left numbered (db tree) numbered_next whole
@@ -78,9 +80,11 @@ insert_operator_room name ceiling = record {
       let db = old.trees in
       let d = did insert_operator_text row limit old new desk (Insert 0 (Values insert_operator_terms 3))
       insert_operator_is h in
-      let a = (row_added desk.schema.apart) limit row operator_table.name operator_table.columns operator_table.primary
+      let a = row_added desk.schema.apart limit row operator_table.name operator_table.columns
+      operator_table.primary
       operator_table.references 0 db 0 insert_operator_terms 3 d.0 new refl d.1 in
-      λ left. (room_taken desk.schema.apart) limit row operator_table.name operator_table.columns operator_table.primary
+      λ left. room_taken desk.schema.apart limit row operator_table.name operator_table.columns
+      operator_table.primary
       operator_table.references 0 db new.trees left desk.operators.whole a;
 }
 
@@ -90,10 +94,11 @@ insert_plan_room p = record {
       let db = old.trees in
       let d = did insert_plan_text (plan_row_in p) limit old new desk (Insert 1 (Values insert_plan_terms 6))
       insert_plan_is h in
-      let a = (row_added desk.schema.apart) limit (plan_row_in p) plan_table.name plan_table.columns plan_table.primary
+      let a = row_added desk.schema.apart limit (plan_row_in p) plan_table.name plan_table.columns
+      plan_table.primary
       plan_table.references 2 db 1 insert_plan_terms 6 d.0 new refl d.1 in
       record {
-        of_plans = λ left. (room_taken desk.schema.apart) limit (plan_row_in p) plan_table.name plan_table.columns
+        of_plans = λ left. room_taken desk.schema.apart limit (plan_row_in p) plan_table.name plan_table.columns
             plan_table.primary
             plan_table.references 2 db new.trees left desk.plans.whole a;
         of_volumes = λ left. same_room (db 9) (new.trees 9) left (a.others.1.1.1.1.0 (unequal _ _ refl));
@@ -108,11 +113,13 @@ insert_volume_room v = record {
       let d =
       did insert_volume_text (volume_params v) limit old new desk (Insert 4 (Values insert_volume_terms 10))
       insert_volume_is h in
-      let a = (row_added desk.schema.apart) limit (volume_params v) volume_table.name volume_table.columns volume_table.primary
+      let a = row_added desk.schema.apart limit (volume_params v) volume_table.name volume_table.columns
+      volume_table.primary
       volume_table.references 9 db 4 insert_volume_terms 10 d.0 new refl d.1 in
       record {
         of_plans = λ left. same_room (db 2) (new.trees 2) left (a.others.1.0 (unequal _ _ refl));
-        of_volumes = λ left. (room_taken desk.schema.apart) limit (volume_params v) volume_table.name volume_table.columns
+        of_volumes = λ left. room_taken desk.schema.apart limit (volume_params v) volume_table.name
+            volume_table.columns
             volume_table.primary volume_table.references 9 db new.trees left desk.volumes.whole a;
         of_spans = λ left. same_room (db 11) (new.trees 11) left (a.others.1.1.1.1.1.0 (unequal _ _ refl));
       };
@@ -124,12 +131,13 @@ insert_span_room s = record {
       let db = old.trees in
       let d = did insert_span_text (span_row_in s) limit old new desk (Insert 5 (Values insert_span_terms 11))
       insert_span_is h in
-      let a = (row_added desk.schema.apart) limit (span_row_in s) span_table.name span_table.columns span_table.primary
+      let a = row_added desk.schema.apart limit (span_row_in s) span_table.name span_table.columns
+      span_table.primary
       span_table.references 11 db 5 insert_span_terms 11 d.0 new refl d.1 in
       record {
         of_plans = λ left. same_room (db 2) (new.trees 2) left (a.others.1.0 (unequal _ _ refl));
         of_volumes = λ left. same_room (db 9) (new.trees 9) left (a.others.1.1.1.1.0 (unequal _ _ refl));
-        of_spans = λ left. (room_taken desk.schema.apart) limit (span_row_in s) span_table.name span_table.columns
+        of_spans = λ left. room_taken desk.schema.apart limit (span_row_in s) span_table.name span_table.columns
             span_table.primary span_table.references 11 db new.trees left desk.spans.whole a;
       };
 }
@@ -150,13 +158,13 @@ remove_plan_room operator id = record {
       let db = old.trees in
       let d =
       did remove_plan_text (key_row operator id) limit old new desk
-      (Delete 1 ((plan_program desk.schema.apart) operator id limit))
+      (Delete 1 (plan_program desk.schema.apart operator id limit))
       remove_plan_is h in
-      let it = rows_written ((plan_task desk.schema.apart) operator id limit)
-      (Delete 1 ((plan_program desk.schema.apart) operator id limit)) db d.0 new d.1 in
-      let cut = (plan_removed desk.schema.apart) operator id limit old it.0 desk it.1 in
-      let left_are : (AreCut desk.schema.apart) operator id (list_any (has_key operator id) (db 2)) db new.trees =
-      subst ((AreCut desk.schema.apart) operator id (list_any (has_key operator id) (db 2)) db)
+      let it = rows_written (plan_task desk.schema.apart operator id limit)
+      (Delete 1 (plan_program desk.schema.apart operator id limit)) db d.0 new d.1 in
+      let cut = plan_removed desk.schema.apart operator id limit old it.0 desk it.1 in
+      let left_are : AreCut desk.schema.apart operator id (list_any (has_key operator id) (db 2)) db new.trees =
+      subst (AreCut desk.schema.apart operator id (list_any (has_key operator id) (db 2)) db)
       (sym (ap (λ (d : Database). d.trees) it.2)) cut in
       let b = list_any (has_key operator id) (db 2) in
       let other = λ (r : Row). not (has_key operator id r) in

@@ -59,23 +59,23 @@ module _ (name : List ℕ) (ceiling : ℕ) (limit : Option ℕ) (old new : Datab
       let db = old.trees in
       let q : Program = record { lets = []; body = set_ceiling_query } in
       let d = did set_ceiling_text ceiling_params limit old new desk (Update 0 q) set_ceiling_is h in
-      let it = rows_written ((task_at desk.schema.apart) limit ceiling_params operator_table.name
+      let it = rows_written (task_at desk.schema.apart limit ceiling_params operator_table.name
       operator_table.columns
       operator_table.primary operator_table.references 0) (Update 0 q) db d.0 new d.1 in
       let wanted = λ (r : Row). is_text (column r 1) name in
       let source = λ (r : Row). rowid r ∷ rowid r ∷ column r 1 ∷ Int (pos ceiling) ∷ [] in
-      let s = (update_sets desk.schema.apart) limit ceiling_params operator_table.name operator_table.columns
+      let s = update_sets desk.schema.apart limit ceiling_params operator_table.name operator_table.columns
       operator_table.primary operator_table.references 0 db
       set_ceiling_query.filter set_ceiling_query.project wanted source it.0 refl (λ r. refl)
       (λ r. both_hold _ ∙ equals_text (column r 1) name) it.1 in
-      let c = (changes desk.schema.apart) limit ceiling_params operator_table.name operator_table.columns
+      let c = changes desk.schema.apart limit ceiling_params operator_table.name operator_table.columns
       operator_table.primary operator_table.references 0 db wanted (is_row_by name) (columns 2) source
       (operator_row name ceiling) it.0.trees desk.operators (λ r. refl) (λ r. refl)
       (λ r is. then (ap (cast kind.Text) (text_same (column r 1) name is))
       (then (cast_int (pos ceiling)) refl)) (λ found.
-      let edit = (update_edit desk.schema.apart) limit ceiling_params operator_table.name operator_table.columns
+      let edit = update_edit desk.schema.apart limit ceiling_params operator_table.name operator_table.columns
       operator_table.primary operator_table.references 0 db found in
-      (operator_quiet desk.schema.apart) (taken_by db edit) edit.news) s in
+      operator_quiet desk.schema.apart (taken_by db edit) edit.news) s in
       let same : new.schema ≡ old.schema = ap (λ (d : Database). d.schema) it.2 ∙ sym desk.schema.is in
       let now : new.trees ≡ it.0.trees = ap (λ (d : Database). d.trees) it.2 in
       let e2 : new.trees 2 ≡ db 2 = ap (λ (t : Trees). t 2) now ∙ c.others.1.0 (unequal _ _ refl) in
@@ -113,19 +113,19 @@ module _ (operator id : List ℕ) (priority aircraft : ℕ) (limit : Option ℕ)
       let db = old.trees in
       let q : Program = record { lets = []; body = close_plan_query } in
       let d = did close_plan_text close_params limit old new desk (Update 1 q) close_plan_is h in
-      let it = rows_written ((task_at desk.schema.apart) limit close_params plan_table.name plan_table.columns
+      let it = rows_written (task_at desk.schema.apart limit close_params plan_table.name plan_table.columns
       plan_table.primary plan_table.references 2) (Update 1 q) db d.0 new d.1 in
       let wanted = λ (r : Row). is_text (column r 1) operator && is_text (column r 2) id in
       let source = λ (r : Row). rowid r ∷ rowid r ∷ column r 1 ∷ column r 2 ∷ Int (pos priority)
       ∷ Int (pos 2)
       ∷ Int (pos aircraft) ∷ [] in
-      let s = (update_sets desk.schema.apart) limit close_params plan_table.name plan_table.columns
+      let s = update_sets desk.schema.apart limit close_params plan_table.name plan_table.columns
       plan_table.primary
       plan_table.references 2 db
       close_plan_query.filter close_plan_query.project wanted source it.0 refl (λ r. refl)
       (λ r. ap₂ (λ a b. a && b) (equals_text (column r 1) operator)
       (both_hold _ ∙ equals_text (column r 2) id)) it.1 in
-      let c = (changes desk.schema.apart) limit close_params plan_table.name plan_table.columns plan_table.primary
+      let c = changes desk.schema.apart limit close_params plan_table.name plan_table.columns plan_table.primary
       plan_table.references 2 db wanted (is_of operator id) (columns 5) source
       (plan_row operator id priority 2 aircraft) it.0.trees desk.plans (λ r. refl) (λ r. refl)
       (λ r is.
@@ -133,7 +133,7 @@ module _ (operator id : List ℕ) (priority aircraft : ℕ) (limit : Option ℕ)
       then (ap (cast kind.Text) (text_same (column r 1) operator parts.0))
       (then (ap (cast kind.Text) (text_same (column r 2) id parts.1))
       (then (cast_int (pos priority)) (then (cast_int (pos 2)) (then (cast_int (pos aircraft)) refl)))))
-      ((plan_quiet desk.schema.apart) limit close_params plan_table.name plan_table.columns plan_table.primary
+      (plan_quiet desk.schema.apart limit close_params plan_table.name plan_table.columns plan_table.primary
       plan_table.references db) s in
       let same : new.schema ≡ old.schema = ap (λ (d : Database). d.schema) it.2 ∙ sym desk.schema.is in
       let now : new.trees ≡ it.0.trees = ap (λ (d : Database). d.trees) it.2 in
@@ -178,11 +178,11 @@ set_ceiling_counts name ceiling = record {
       let db = old.trees in
       let q : Program = record { lets = []; body = set_ceiling_query } in
       let d = did_counting set_ceiling_text params limit old new count desk (Update 0 q) set_ceiling_is h in
-      let it = rows_counted ((task_at desk.schema.apart) limit params operator_table.name operator_table.columns
+      let it = rows_counted (task_at desk.schema.apart limit params operator_table.name operator_table.columns
       operator_table.primary operator_table.references 0) (Update 0 q) db d.0 new d.1 in
       let wanted = λ (r : Row). is_text (column r 1) name in
       d.2 ∙ ap (λ rows. unwrap_or rows 0) it.2
-      ∙ (update_counts desk.schema.apart) limit params operator_table.name operator_table.columns
+      ∙ update_counts desk.schema.apart limit params operator_table.name operator_table.columns
       operator_table.primary operator_table.references 0 db
       set_ceiling_query.filter set_ceiling_query.project wanted
       (λ r. rowid r ∷ rowid r ∷ column r 1 ∷ Int (pos ceiling) ∷ []) it.0 refl (λ r. refl)
@@ -199,22 +199,22 @@ set_ceiling_room name ceiling = record {
       let db = old.trees in
       let q : Program = record { lets = []; body = set_ceiling_query } in
       let d = did set_ceiling_text params limit old new desk (Update 0 q) set_ceiling_is h in
-      let it = rows_written ((task_at desk.schema.apart) limit params operator_table.name operator_table.columns
+      let it = rows_written (task_at desk.schema.apart limit params operator_table.name operator_table.columns
       operator_table.primary operator_table.references 0) (Update 0 q) db d.0 new d.1 in
       let wanted = λ (r : Row). is_text (column r 1) name in
       let source = λ (r : Row). rowid r ∷ rowid r ∷ column r 1 ∷ Int (pos ceiling) ∷ [] in
-      let s = (update_sets desk.schema.apart) limit params operator_table.name operator_table.columns
+      let s = update_sets desk.schema.apart limit params operator_table.name operator_table.columns
       operator_table.primary operator_table.references 0 db
       set_ceiling_query.filter set_ceiling_query.project wanted source it.0 refl (λ r. refl)
       (λ r. both_hold _ ∙ equals_text (column r 1) name) it.1 in
       ap (λ (d : Database). d.trees 0) it.2
-      ∙ (update_stays desk.schema.apart) limit params operator_table.name operator_table.columns
+      ∙ update_stays desk.schema.apart limit params operator_table.name operator_table.columns
       operator_table.primary operator_table.references 0 db wanted source it.0.trees
       (none_pass wanted (columns 2) (is_row_by name) (λ r. refl) (db 0) none)
       (λ found.
-      let edit = (update_edit desk.schema.apart) limit params operator_table.name operator_table.columns
+      let edit = update_edit desk.schema.apart limit params operator_table.name operator_table.columns
       operator_table.primary operator_table.references 0 db found in
-      (operator_quiet desk.schema.apart) (taken_by db edit) edit.news) s;
+      operator_quiet desk.schema.apart (taken_by db edit) edit.news) s;
 }
 
 pub set_closed_changes : (operator id : List ℕ) (priority aircraft : ℕ)

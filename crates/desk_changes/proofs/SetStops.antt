@@ -56,11 +56,11 @@ module _ {beside : Beside} (away : StandsApart beside) where
   unfolding everything
   closing_fits operator id priority aircraft trees misfit = true≢false misfit
 
-  operator_referred : (IsReferredTo away) operator_at
+  operator_referred : IsReferredTo away operator_at
   unfolding everything
   operator_referred = others_fit away operator_at (inl refl)
 
-  plan_referred : (IsReferredTo away) plan_at
+  plan_referred : IsReferredTo away plan_at
   unfolding everything
   plan_referred = others_fit away plan_at (inr (inl refl))
 
@@ -102,11 +102,13 @@ module _ (name : List ℕ) (ceiling : ℕ) (limit : Option ℕ) (old : Database)
       (then (cast_int (pos ceiling)) refl))
 
   ceiling_never : (stop : Option Error)
-      → OnRows ((task_at desk.schema.apart) limit (operator_row name ceiling) operator_table.name operator_table.columns
+      → OnRows (task_at desk.schema.apart limit (operator_row name ceiling) operator_table.name
+      operator_table.columns
       operator_table.primary operator_table.references 0) enforced None
       (Update 0 (record { lets = []; body = set_ceiling_query })) old.trees (Err stop)
       → IsAtLimit limit stop
-  ceiling_never = (never_stops desk.schema.apart) limit (operator_row name ceiling) operator_table.name operator_table.columns
+  ceiling_never = never_stops desk.schema.apart limit (operator_row name ceiling) operator_table.name
+      operator_table.columns
       operator_table.primary operator_table.references 0 old.trees set_ceiling_query.filter
       set_ceiling_query.project is_named ceiling_source (operator_row name ceiling) (record {
         listed = inl refl;
@@ -125,7 +127,29 @@ module _ (name : List ℕ) (ceiling : ℕ) (limit : Option ℕ) (old : Database)
                     ∙ sym (ap (λ x. column x 1) (ceiling_set r whole is)),
                 tt,
               )),
-              (off, (off, (off, (off, (off, (off, (off, others desk.schema.apart _ operator_at (omega arith)))))))),
+              (
+                off,
+                (
+                  off,
+                  (
+                    off,
+                    (
+                      off,
+                      (
+                        off,
+                        (
+                          off,
+                          (
+                            off,
+                            others desk.schema.apart _ operator_at
+                                (omega arith),
+                          ),
+                        ),
+                      ),
+                    ),
+                  ),
+                ),
+              ),
             );
             refers = tt;
           };
@@ -134,17 +158,18 @@ module _ (name : List ℕ) (ceiling : ℕ) (limit : Option ℕ) (old : Database)
           typed = λ n. refl;
           present = λ n. refl;
           checked = λ n. refl;
-          stored = (operator_stored desk.schema.apart) name ceiling short;
+          stored = operator_stored desk.schema.apart name ceiling short;
         };
         num = desk.operators;
         low = low;
         obeys = subst (λ s. Obeys s old.trees) desk.schema.is sound.obeys;
         quiet = λ found.
-            let edit = (update_edit desk.schema.apart) limit (operator_row name ceiling) operator_table.name
+            let edit = update_edit desk.schema.apart limit (operator_row name ceiling) operator_table.name
             operator_table.columns
             operator_table.primary operator_table.references 0 old.trees found in
-            (operator_quiet desk.schema.apart) (taken_by old.trees edit) edit.news;
-        sure = λ e. never (desk_in old.schema) set_ceiling_query [] (operator_row name ceiling) ((ceiling_fits desk.schema.apart) name ceiling)
+            operator_quiet desk.schema.apart (taken_by old.trees edit) edit.news;
+        sure = λ e. never (desk_in old.schema) set_ceiling_query [] (operator_row name ceiling)
+            (ceiling_fits desk.schema.apart name ceiling)
             (λ trees h. elim h [ inl none ↦ absurd none | inr fold ↦ absurd fold.4 ]) limit
             (record { schema = desk_in old.schema; trees = old.trees }) e refl;
       }) 0
@@ -183,12 +208,13 @@ module _ (operator id : List ℕ) (priority aircraft : ℕ) (limit : Option ℕ)
       text_same (column r 2) id parts.1 ∙ sym (ap (λ x. column x 2) (closing_set r whole is))
 
   closing_never : (stop : Option Error)
-      → OnRows ((task_at desk.schema.apart) limit (closing_row operator id priority aircraft) plan_table.name
+      → OnRows (task_at desk.schema.apart limit (closing_row operator id priority aircraft) plan_table.name
       plan_table.columns plan_table.primary
       plan_table.references 2) enforced None
       (Update 1 (record { lets = []; body = close_plan_query })) old.trees (Err stop)
       → IsAtLimit limit stop
-  closing_never = (never_stops desk.schema.apart) limit (closing_row operator id priority aircraft) plan_table.name
+  closing_never = never_stops desk.schema.apart limit (closing_row operator id priority aircraft)
+      plan_table.name
       plan_table.columns
       plan_table.primary plan_table.references 2 old.trees close_plan_query.filter
       close_plan_query.project is_closed closing_source (plan_row operator id priority 2 aircraft)
@@ -218,16 +244,16 @@ module _ (operator id : List ℕ) (priority aircraft : ℕ) (limit : Option ℕ)
           typed = λ n. refl;
           present = λ n. refl;
           checked = λ n. refl;
-          stored = (plan_stored desk.schema.apart) operator id priority 2 aircraft short brief;
+          stored = plan_stored desk.schema.apart operator id priority 2 aircraft short brief;
         };
         num = desk.plans;
         low = low;
         obeys = subst (λ s. Obeys s old.trees) desk.schema.is sound.obeys;
-        quiet = (plan_quiet desk.schema.apart) limit (closing_row operator id priority aircraft) plan_table.name
+        quiet = plan_quiet desk.schema.apart limit (closing_row operator id priority aircraft) plan_table.name
             plan_table.columns plan_table.primary
             plan_table.references old.trees;
         sure = λ e. never (desk_in old.schema) close_plan_query [] (closing_row operator id priority aircraft)
-            ((closing_fits desk.schema.apart) operator id priority aircraft)
+            (closing_fits desk.schema.apart operator id priority aircraft)
             (λ trees h. elim h [ inl none ↦ absurd none | inr fold ↦ absurd fold.4 ]) limit
             (record { schema = desk_in old.schema; trees = old.trees }) e refl;
       }) 1
@@ -238,7 +264,8 @@ pub set_ceiling_sure : (name : List ℕ) (ceiling : ℕ)
     → IsSureChange set_ceiling_text (operator_row name ceiling) (λ db. IsShort name × AreLow (db.trees 0))
 unfolding understood everything
 set_ceiling_sure name ceiling =
-    sure_change set_ceiling_text (operator_row name ceiling) _ _ set_ceiling_is tt (λ beside. refl) (λ beside. omega arith)
+    sure_change set_ceiling_text (operator_row name ceiling) _ _ set_ceiling_is tt (λ beside. refl)
+    (λ beside. omega arith)
     (λ limit db stop desk sound fits h. ceiling_never name ceiling limit db desk sound fits.0 fits.1 stop h)
 
 pub set_closed_sure : (operator id : List ℕ) (priority aircraft : ℕ)
@@ -246,7 +273,8 @@ pub set_closed_sure : (operator id : List ℕ) (priority aircraft : ℕ)
     (λ db. IsShort operator × IsShort id × AreLow (db.trees 2))
 unfolding understood everything
 set_closed_sure operator id priority aircraft =
-    sure_change close_plan_text (closing_row operator id priority aircraft) _ _ close_plan_is tt (λ beside. refl)
+    sure_change close_plan_text (closing_row operator id priority aircraft) _ _ close_plan_is tt
+    (λ beside. refl)
     (λ beside. omega arith)
     (λ limit db stop desk sound fits h.
     closing_never operator id priority aircraft limit db desk sound fits.0 fits.1 fits.2 stop h)

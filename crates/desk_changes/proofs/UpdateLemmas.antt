@@ -156,7 +156,7 @@ module _ {beside : Beside} (away : StandsApart beside) where
     pub update_sets : (terms project : List Term) (wanted : Row → Bool) (source : Row → Row) (w : Written)
         → overlay db [] tree ≡ db tree → ((r : Row) → eval_all project (params ∷ r ∷ []) ≡ source r)
         → ((r : Row) → list_all (holds (params ∷ r ∷ [])) terms ≡ wanted r)
-        → Updates ((task_at away) limit params name cols key refs tree)
+        → Updates (task_at away limit params name cols key refs tree)
         (record { lets = []; body = query_of (inner tree end) terms project [] }) params db (Ok w)
         → Sets wanted source w.trees
     update_sets terms project wanted source w same shows passes h =
@@ -174,7 +174,7 @@ module _ {beside : Beside} (away : StandsApart beside) where
     pub update_counts : (terms project : List Term) (wanted : Row → Bool) (source : Row → Row) (w : Written)
         → overlay db [] tree ≡ db tree → ((r : Row) → eval_all project (params ∷ r ∷ []) ≡ source r)
         → ((r : Row) → list_all (holds (params ∷ r ∷ [])) terms ≡ wanted r)
-        → Updates ((task_at away) limit params name cols key refs tree)
+        → Updates (task_at away limit params name cols key refs tree)
         (record { lets = []; body = query_of (inner tree end) terms project [] }) params db (Ok w)
         → length w.rows ≡ length (filter wanted (db tree))
     update_counts terms project wanted source w same shows passes h =
@@ -194,7 +194,8 @@ module _ {beside : Beside} (away : StandsApart beside) where
     update_stays wanted source next none quiet s =
         let empty : s.found ≡ [] = no_rows s.found
         (subst (λ rows. IsPermutation (map source rows) s.found) none s.are) in
-        let step = one_step (desk_with beside) Enforced db next (update_edit s.found) (quiet s.found) s.writes in
+        let step = one_step (desk_with beside) Enforced db next (update_edit s.found) (quiet s.found) s.writes
+        in
         step.rows
         ∙ ap (λ found. put_all (without_all (db tree) (ids_of found)) (update_edit found).news) empty
 
@@ -308,11 +309,11 @@ module _ {beside : Beside} (away : StandsApart beside) where
   pub plan_quiet : (limit : Option ℕ) (params : Row) (name : List ℕ) (cols : List Column) (key : List ℕ)
       (refs : List Reference) (db : Trees) (found : List Row)
       → works (desk_with beside) Enforced 0 2 (taken_by db
-      ((update_edit away) limit params name cols key refs 2 db found))
-      ((update_edit away) limit params name cols key refs 2 db found).news ≡ []
+      (update_edit away limit params name cols key refs 2 db found))
+      (update_edit away limit params name cols key refs 2 db found).news ≡ []
   plan_quiet limit params name cols key refs db [] = no_works (desk_with beside) Enforced 0 2 []
   plan_quiet limit params name cols key refs db (x ∷ found) =
-      plan_works (taken_by db ((update_edit away) limit params name cols key refs 2 db (x ∷ found)))
-      ((update_edit away) limit params name cols key refs 2 db (x ∷ found)).news
+      plan_works (taken_by db (update_edit away limit params name cols key refs 2 db (x ∷ found)))
+      (update_edit away limit params name cols key refs 2 db (x ∷ found)).news
       (nonempty (with_rowid Given (without_all (db 2) (ids_of (x ∷ found)))
       (cast_row (table_at limit params name cols key refs 2) (drop 1 x))) _)

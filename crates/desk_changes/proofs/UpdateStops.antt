@@ -86,7 +86,8 @@ module _ {beside : Beside} (away : StandsApart beside) where
   pub record Sets (table : Table) (wanted : Row → Bool) (g : Row → Row) (cells : Row) : Type 0
     where
       pub row : (r : Row) → is_int (rowid r) ≡ true → wanted r ≡ true → g r ≡ rowid r ∷ cells
-      pub keys : (r : Row) → is_int (rowid r) ≡ true → wanted r ≡ true → KeepsKeys (desk_with beside) table r (g r)
+      pub keys : (r : Row) → is_int (rowid r) ≡ true → wanted r ≡ true
+          → KeepsKeys (desk_with beside) table r (g r)
 
   -- what the cells of each such row have to pass
   pub record IsGood (table : Table) (db : Trees) (cells : Row) : Type 0 where
@@ -95,7 +96,7 @@ module _ {beside : Beside} (away : StandsApart beside) where
     pub checked : (n : ℤ) → passes Check (desk_with beside) db table (Int n ∷ cells) ≡ true
     pub stored : (n : ℤ) → ¬ IsOversized (desk_with beside) table (Int n ∷ cells)
 
-  module _ (table : Table) (listed : Has (desk_with beside).tables table) (fit : (IsReferredTo away) table)
+  module _ (table : Table) (listed : Has (desk_with beside).tables table) (fit : IsReferredTo away table)
       (db : Trees) (news : List Row) (wanted : Row → Bool) (g : Row → Row) (cells : Row)
       (num : AreNumbered (db table.tree)) (sets : Sets table wanted g cells)
       (made : IsPermutation (map g (filter wanted (db table.tree))) news) where
@@ -189,7 +190,7 @@ module _ {beside : Beside} (away : StandsApart beside) where
 
     pub passes_all : (gone : List ℤ) → without_all rows gone ≡ left → AreLow rows → IsGood table db cells
         → list_all (is_key_of (desk_with beside)) table.references ≡ true → Keeps Unique (desk_with beside) db
-        → (Passes away) db (record { table = table; gone = gone; news = news })
+        → Passes away db (record { table = table; gone = gone; news = news })
     passes_all gone leaves low good refers keeps =
         let edit : Edit = record { table = table; gone = gone; news = news } in
         record {
@@ -200,7 +201,7 @@ module _ {beside : Beside} (away : StandsApart beside) where
           checked = test_from _ news (λ n there. let it = shape n there in
               subst (λ r. passes Check (desk_with beside) db table r ≡ true) (sym it.1) (good.checked it.0));
           fresh = subst (λ l. are_fresh l news ≡ true) (sym leaves) fresh;
-          unique = (unique_twins away) db table (edited db edit) listed
+          unique = unique_twins away db table (edited db edit) listed
               (twins_of (with_tree db table.tree (edited db edit))
               (with_here db table.tree (edited db edit) ∙ ap (λ l. put_all l news) leaves)) keeps;
           keyed = test_from (λ r. is_int (rowid r)) news (λ n there. let it = shape n there in

@@ -248,7 +248,8 @@ operator_makes = record {
 }
 
 pub operator_extends : Extends operator_text Nothing Operators
-operator_extends = extends_by Nothing Operators operator_text operator_table (λ none. cc) operator_makes operators_grown
+operator_extends = extends_by Nothing Operators operator_text operator_table (λ none. cc) operator_makes
+    operators_grown
 
 pub plan_makes : MakesTable operator_schema plan_text plan_table
 unfolding understood everything
@@ -288,7 +289,8 @@ old_span_makes = record {
 }
 
 pub old_span_extends : Extends old_span_text OldVolumes OldSpans
-old_span_extends = extends_by OldVolumes OldSpans old_span_text old_span_table (λ none. cc) old_span_makes old_spans_grown
+old_span_extends = extends_by OldVolumes OldSpans old_span_text old_span_table (λ none. cc) old_span_makes
+    old_spans_grown
 
 pub volume_makes : MakesTable old_schema volume_text volume_table
 unfolding understood everything
@@ -390,7 +392,8 @@ old_first_extends = record {
   writes = is_writing (understood old_table_schema old_leaf_index_text) (CreateIndex 3) old_first_makes.is tt
       old_first_makes.plain;
   tables = λ limit old new was h.
-      let did = indexes old_table_schema old_leaf_index_text 3 old_span_made old_span_first old_first_makes limit
+      let did = indexes old_table_schema old_leaf_index_text 3 old_span_made old_span_first old_first_makes
+      limit
       old new was.schema h in
       old_first_grown old new was did.0 did.1;
 }
@@ -412,7 +415,11 @@ first_grown : (old new : Database) → IsMadeTo Spans old → new.schema ≡ des
     × (beside_of new.schema ≡ beside_of old.schema)
 first_grown old new was schema kept = (
   record {
-    schema = subst IsDeskSchema (sym schema) (record { is = refl; apart = record { tables = refl; indexes = refl } });
+    schema = subst IsDeskSchema (sym schema) (record {
+      is = refl;
+      apart = record
+          { tables = refl; indexes = refl };
+    });
     rows = λ table there. elim table as (λ t. has_table All t ≡ true
         → AreNumbered (new.trees (tree_of t))) [
           | desk.Operator ↦ λ there. subst AreNumbered (sym kept.0) (was.rows desk.Operator refl)
@@ -549,10 +556,17 @@ may_complete {S = S} g made old begun mid new is made_all spared last clean db l
           subst (λ h. Finishes g made h mid) is (made_all early) in
           inr (record {
             was_open = done.was_open;
-            desk = subst (λ trees. IsDesk (record { schema = desk_in (state g old).now.schema; trees = trees })) (sym now)
+            desk = subst (λ trees. IsDesk (record {
+              schema = desk_in (state g old).now.schema;
+              trees = trees;
+            })) (sym now)
                 (subst (λ schema. IsDesk (record { schema = schema; trees = (state g mid).now.trees }))
                 (done.desk.schema.is ∙ ap desk_with done.beside) done.desk);
-            sound = subst (λ trees. IsDatabase (record { schema = desk_in (state g old).now.schema; trees = trees })) (sym now)
+            sound = subst (λ trees. IsDatabase (record {
+              schema = desk_in (state g old).now.schema;
+              trees =
+                  trees;
+            })) (sym now)
                 (subst (λ schema. IsDatabase (record { schema = schema; trees = (state g mid).now.trees }))
                 (done.desk.schema.is ∙ ap desk_with done.beside) done.sound);
             same = ap tables_of now ∙ done.same;

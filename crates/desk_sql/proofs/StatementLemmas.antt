@@ -150,7 +150,8 @@ module _ (text : List ℕ) (from : Join) (terms : List Term) (project : List Ter
       → ((db : Trees) → map (eval_all project) (matches (overlay db []) terms from ([] ∷ [])) ≡ wanted db)
       → SelectsAll table text cells wanted
   selects_all keys compares are = record {
-    sure = λ db has. subst (λ s. IsSure s text) (sym has.schema) (sure has.others db.schema.indexes db.schema.views);
+    sure = λ db has. subst (λ s. IsSure s text) (sym has.schema)
+        (sure has.others db.schema.indexes db.schema.views);
     rows = λ db rows has h.
         let here = known has.others db.schema.indexes db.schema.views in
         listed text from terms project order names here [] cells db rows (wanted db.trees)

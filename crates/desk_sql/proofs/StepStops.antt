@@ -202,7 +202,8 @@ operator_free = record {
 }
 
 pub operator_step : IsStep operator_text Nothing Operators
-operator_step = step_by_table Nothing Operators operator_text operator_table (λ none. cc) operator_free operator_extends
+operator_step = step_by_table Nothing Operators operator_text operator_table (λ none. cc) operator_free
+    operator_extends
 
 plan_free : IsFreeTable operator_schema plan_text plan_table
 unfolding understood everything fits_kind is_free_name begins same_name value_cmp Ieee.is_nan Ieee.lt
@@ -259,7 +260,8 @@ old_volume_free = record {
 
 pub old_volume_step : IsStep old_volume_text Plans OldVolumes
 old_volume_step =
-    step_by_table Plans OldVolumes old_volume_text old_volume_table (λ none. cc) old_volume_free old_volume_extends
+    step_by_table Plans OldVolumes old_volume_text old_volume_table (λ none. cc) old_volume_free
+    old_volume_extends
 
 old_span_free : IsFreeTable old_volume_schema old_span_text old_span_table
 unfolding understood everything fits_kind is_free_name begins same_name value_cmp Ieee.is_nan Ieee.lt
@@ -287,7 +289,8 @@ old_span_free = record {
 }
 
 pub old_span_step : IsStep old_span_text OldVolumes OldSpans
-old_span_step = step_by_table OldVolumes OldSpans old_span_text old_span_table (λ none. cc) old_span_free old_span_extends
+old_span_step = step_by_table OldVolumes OldSpans old_span_text old_span_table (λ none. cc) old_span_free
+    old_span_extends
 
 volume_free : IsFreeTable old_schema volume_text volume_table
 unfolding understood everything fits_kind is_free_name begins same_name value_cmp Ieee.is_nan Ieee.lt
@@ -539,7 +542,8 @@ old_first_step = record {
       old_first_makes.is old_first_makes.plain tt
       old_first_free.given old_first_free.all;
   never = λ limit db stop was sound small.
-      index_never old_table_schema old_leaf_index_text 3 old_span_made old_span_first old_first_free db was.schema
+      index_never old_table_schema old_leaf_index_text 3 old_span_made old_span_first old_first_free db
+      was.schema
       (subst (λ s. Keeps Unique s db.trees) was.schema (sound.obeys.rules Unique))
       (all_entries (db.trees old_span_made.tree) small.0 (was.rows desk.OldSpan refl).whole) limit stop;
 }

@@ -134,7 +134,8 @@ module _ {beside : Beside} (away : StandsApart beside) where
 
   -- the parents of its rows are beside too
   pub parent_beside : (ref : Reference) (key : ParentKey) → refers_elsewhere ref ≡ true
-      → parent_key (desk_with beside).tables ref ≡ Some key → (t : Table) × Has beside.tables t × (t.tree ≡ key.0)
+      → parent_key (desk_with beside).tables ref ≡ Some key → (t : Table) × Has beside.tables t
+      × (t.tree ≡ key.0)
   parent_beside ref key other is =
       parent_is_table beside.tables ref key (sym (parents_beside beside.tables ref other) ∙ is)
 
@@ -168,15 +169,18 @@ module _ {beside : Beside} (away : StandsApart beside) where
     own_works = refl
 
     -- the actions are those on the desk's tables
-    pub works_as : works (desk_with beside) keys depth tree olds news ≡ works desk_schema keys depth tree olds news
+    pub works_as : works (desk_with beside) keys depth tree olds news
+        ≡ works desk_schema keys depth tree olds news
     works_as = flat_map-append work_on desk_schema.tables beside.tables
-        ∙ ap (λ more. flat_map work_on desk_schema.tables ++ more) (none_beside beside.tables (λ t known. known))
+        ∙ ap (λ more. flat_map work_on desk_schema.tables ++ more)
+        (none_beside beside.tables (λ t known. known))
         ∙ append-nil (flat_map work_on desk_schema.tables) ∙ own_works
 
   -- ---- no reference leads to one of the desk's tables
 
   pub others_fit : (table : Table) → Has own_names table.name
-      → list_all (λ (t : Table). list_all (is_key_if_to (desk_with beside) table) t.references) beside.tables ≡ true
+      → list_all (λ (t : Table). list_all (is_key_if_to (desk_with beside) table) t.references) beside.tables
+      ≡ true
   others_fit table own =
       test_from (λ (t : Table). list_all (is_key_if_to (desk_with beside) table) t.references) beside.tables
       (λ t known.
@@ -186,7 +190,8 @@ module _ {beside : Beside} (away : StandsApart beside) where
       (some_from (λ own. same_name own ref.parent) own_names table.name own named))))))
 
   -- no index beside is on one of the desk's tables
-  pub unguarded : (table : Table) → table.tree ≤ 13 → (i : Index) → Has beside.indexes i → guards i table ≡ false
+  pub unguarded : (table : Table) → table.tree ≤ 13 → (i : Index) → Has beside.indexes i → guards i table
+      ≡ false
   unguarded table low i known = false_from_ne_true _ (λ on.
       let same = eqb-true i.table table.tree (and_parts _ _ on).1 in
       let high = index_behind i known in

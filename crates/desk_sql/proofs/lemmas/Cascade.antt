@@ -350,7 +350,8 @@ module _ {beside : Beside} (away : StandsApart beside) where
   pub stepped : (Later : Trees → List Work → End → Type 0) (db : Trees) (edit : Edit) (depth : ℕ)
       (below : List Work) (next : Trees) → Goes (desk_with beside) Enforced Later db edit depth below (Ok next)
       → (mid : Trees) × Applies (desk_with beside) Enforced db edit mid
-      × Later mid (below ++ works (desk_with beside) Enforced depth edit.table.tree (taken_by db edit) edit.news)
+      × Later mid (below ++ works (desk_with beside) Enforced depth edit.table.tree (taken_by db edit)
+      edit.news)
       (Ok next)
   stepped Later db edit depth below next (inl refused) = absurd (let e = refused.2 in cc)
   stepped Later db edit depth below next (inr (inl big)) = absurd (let e = big.3 in cc)
@@ -358,13 +359,14 @@ module _ {beside : Beside} (away : StandsApart beside) where
 
   module _ (n : ℕ) (db : Trees) (table : Table) (moves : List (Row × Row)) (below : List Work)
       (next : Trees)
-      (quiet : (IsQuiet away) table.tree)
+      (quiet : IsQuiet away table.tree)
       (num : AreNumbered (db table.tree)) where
     abbrev is_child : Row → Bool
     is_child r = list_any (is_child_of (delete_on table moves) r) moves
 
     gone : (ids : List ℤ) → AreChildren db (delete_on table moves) ids
-        → ActsOn (desk_with beside) Enforced (Leads (desk_with beside) Enforced n) db (delete_on table moves) below
+        → ActsOn (desk_with beside) Enforced (Leads (desk_with beside) Enforced n) db (delete_on table moves)
+        below
         (Ok next)
         ids
         → (mid : Trees) × Took table.tree is_child db mid
@@ -395,7 +397,8 @@ module _ {beside : Beside} (away : StandsApart beside) where
               step.2,
         )
 
-    pub acted : Acts (desk_with beside) Enforced (Leads (desk_with beside) Enforced n) db (delete_on table moves) below
+    pub acted : Acts (desk_with beside) Enforced (Leads (desk_with beside) Enforced n) db
+        (delete_on table moves) below
         (Ok next) → (mid : Trees) × Took table.tree is_child db mid
         × Leads (desk_with beside) Enforced n mid below (Ok next)
     acted h = gone h.0 h.1 h.2
@@ -458,19 +461,20 @@ module _ {beside : Beside} (away : StandsApart beside) where
         none (x ∷ below) w e = cc
 
     -- an action takes its children, and leads to those before it
-    one_goes : (table : Table) → (IsQuiet away) table.tree → (before : List Work) (n : ℕ) (db : Trees)
+    one_goes : (table : Table) → IsQuiet away table.tree → (before : List Work) (n : ℕ) (db : Trees)
         → AreNumbered (db table.tree)
         → Leads (desk_with beside) Enforced n db (before ++ delete_on table moves ∷ []) (Ok next)
-        → (left : ℕ) × (mid : Trees) × (Took away) table.tree (child_of moves table) db mid
+        → (left : ℕ) × (mid : Trees) × Took away table.tree (child_of moves table) db mid
         × Leads (desk_with beside) Enforced left mid before (Ok next)
     one_goes table quiet before zero db num h = absurd (none_last before (delete_on table moves) h.0)
     one_goes table quiet before (suc n) db num h =
         let last = last_is before h.0 (delete_on table moves) h.1 h.2 in
         let acts = subst (λ ws. Acts (desk_with beside) Enforced (Leads (desk_with beside) Enforced n) db
         (delete_on table moves) ws (Ok next)) last.0
-        (subst (λ w. Acts (desk_with beside) Enforced (Leads (desk_with beside) Enforced n) db w h.0 (Ok next)) last.1
+        (subst (λ w. Acts (desk_with beside) Enforced (Leads (desk_with beside) Enforced n) db w h.0
+        (Ok next)) last.1
         h.3) in
-        let done = (acted away) n db table moves before next quiet num acts in
+        let done = acted away n db table moves before next quiet num acts in
         (n, done.0, done.1, done.2)
 
     old_go : (n : ℕ) (db : Trees) → AreNumbered (db 4) → AreNumbered (db 6)
@@ -478,7 +482,8 @@ module _ {beside : Beside} (away : StandsApart beside) where
         (delete_on old_volumes_at moves ∷ delete_on old_spans_at moves ∷ []) (Ok next)
         → OldGone moves db next
     old_go n db four six h =
-        let first = one_goes old_spans_at (old_span_works away) (delete_on old_volumes_at moves ∷ []) n db six h in
+        let first = one_goes old_spans_at (old_span_works away) (delete_on old_volumes_at moves ∷ []) n db six
+        h in
         let a = first.2.others in
         let four_is : first.1 4 ≡ db 4 = a.1.1.0 (unequal _ _ refl) in
         let last = one_goes old_volumes_at (old_volume_works away) [] first.0 first.1

@@ -87,7 +87,8 @@ module _ {beside : Beside} (away : StandsApart beside) where
             → (has_null ref.columns row || is_held next ref.columns row o) ≡ true
         still ref row None stays h = h
         still ref row (Some key) stays h =
-            subst (λ rows. (has_null ref.columns row || list_any (λ p. agree key.2 key.1 p ref.columns row) rows)
+            subst (λ rows. (has_null ref.columns row || list_any (λ p. agree key.2 key.1 p ref.columns row)
+            rows)
             ≡ true) (sym (stays key refl)) h
 
         others : (t : Table) (ref : Reference) (row : Row) (o : Option ParentKey)
@@ -97,7 +98,8 @@ module _ {beside : Beside} (away : StandsApart beside) where
         others t ref row o is known k h =
             subst (λ o. (has_null ref.columns row || is_held next ref.columns row o) ≡ true) (sym is)
             (still ref row o (λ key same.
-            let p = parent_beside away ref key (test_has refers_elsewhere t.references ref (elsewhere away t known) k)
+            let p = parent_beside away ref key (test_has refers_elsewhere t.references ref
+            (elsewhere away t known) k)
             (is ∙ same) in
             subst (λ n. next n ≡ db n) p.2 (rest p.0 p.1))
             (subst (λ o. (has_null ref.columns row || is_held db ref.columns row o) ≡ true) is h))
@@ -131,7 +133,8 @@ module _ {beside : Beside} (away : StandsApart beside) where
     pub were_there : ((t : Table) → Has beside.tables t → next t.tree ≡ db t.tree)
         → AreAmong (next 0) (db 0) → AreAmong (next 2) (db 2) → AreAmong (next 4) (db 4)
         → AreAmong (next 6) (db 6) → AreAmong (next 9) (db 9) → AreAmong (next 11) (db 11)
-        → (t : Table) (row : Row) → Has (desk_with beside).tables t → Has (next t.tree) row → Has (db t.tree) row
+        → (t : Table) (row : Row) → Has (desk_with beside).tables t → Has (next t.tree) row
+        → Has (db t.tree) row
     were_there rest zero two four six nine eleven = by_table
       where
         in_tree : (t made : Table) (row : Row) → t ≡ made → AreAmong (next made.tree) (db made.tree)
@@ -147,4 +150,5 @@ module _ {beside : Beside} (away : StandsApart beside) where
         by_table t row (inr (inr (inr (inl is)))) there = in_tree t _ row is six there
         by_table t row (inr (inr (inr (inr (inl is))))) there = in_tree t _ row is nine there
         by_table t row (inr (inr (inr (inr (inr (inl is)))))) there = in_tree t _ row is eleven there
-        by_table t row (inr (inr (inr (inr (inr (inr known)))))) there = subst (λ l. Has l row) (rest t known) there
+        by_table t row (inr (inr (inr (inr (inr (inr known)))))) there = subst (λ l. Has l row) (rest t known)
+            there

@@ -204,7 +204,8 @@ pub still_held : {S : Type 0} (g : Ghosts S) (old new : Held S) (Is : Schema →
     → Holds g old (λ (db : Database). Is db.schema) → Holds g new (λ (db : Database). Is db.schema)
 still_held g old new Is reads holds clean live =
     let kept = reads.kept clean live in
-    subst (λ (db : Database). Is db.schema) (sym kept.now) (holds (omega (arith, reads.doubt, clean)) kept.was_open)
+    subst (λ (db : Database). Is db.schema) (sym kept.now) (holds (omega (arith, reads.doubt, clean))
+    kept.was_open)
 
 pub remembers_survived : {S : Type 0} (g : Ghosts S) (old new : Held S)
     → Survives (state g old) (state g new) (λ _. ⊥) → Remembers g old new
@@ -256,10 +257,17 @@ may_make {S = S} g old begun mid new Changes is made spared last clean db left =
           subst (λ h. Makes g h mid Changes) is (made early) in
           inr (record {
             was_open = done.was_open;
-            desk = subst (λ trees. IsDesk (record { schema = desk_in (state g old).now.schema; trees = trees })) (sym now)
+            desk = subst (λ trees. IsDesk (record {
+              schema = desk_in (state g old).now.schema;
+              trees = trees;
+            })) (sym now)
                 (subst (λ schema. IsDesk (record { schema = schema; trees = (state g mid).now.trees }))
                 (done.desk.schema.is ∙ ap desk_with done.beside) done.desk);
-            sound = subst (λ trees. IsDatabase (record { schema = desk_in (state g old).now.schema; trees = trees })) (sym now)
+            sound = subst (λ trees. IsDatabase (record {
+              schema = desk_in (state g old).now.schema;
+              trees =
+                  trees;
+            })) (sym now)
                 (subst (λ schema. IsDatabase (record { schema = schema; trees = (state g mid).now.trees }))
                 (done.desk.schema.is ∙ ap desk_with done.beside) done.sound);
             changed = subst (λ trees. Changes (tables_of (state g old).now.trees) (tables_of trees))

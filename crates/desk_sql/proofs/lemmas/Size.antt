@@ -88,7 +88,8 @@ module _ {beside : Beside} (away : StandsApart beside) where
       absurd (let high = index_behind away i known in omega (arith, high, on))
 
   pub plan_stored : (operator id : List ℕ) (priority usage aircraft : ℕ) → IsShort operator → IsShort id
-      → (n : ℤ) → ¬ IsOversized (desk_with beside) plan_at (Int n ∷ plan_row operator id priority usage aircraft)
+      → (n : ℤ) → ¬ IsOversized (desk_with beside) plan_at (Int n
+      ∷ plan_row operator id priority usage aircraft)
   plan_stored operator id priority usage aircraft short brief n (inl big) = big (
     storable (Int n ∷ plan_row operator id priority usage aircraft) (omega arith) (omega arith) (
       whole n,

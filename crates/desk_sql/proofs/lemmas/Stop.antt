@@ -232,7 +232,8 @@ sure_change text params Fits command known writes given whole never = record {
   means = λ schema desk.
       let beside = beside_of schema in
       subst (λ s. IsWholeIn text (length params) (understood s text)) (sym desk.is)
-      (whole_in text _ (understood (desk_with beside) text) command (known beside).is (known beside).plain writes
+      (whole_in text _ (understood (desk_with beside) text) command (known beside).is (known beside).plain
+      writes
       (given beside) (whole beside));
   never = λ limit db stop desk sound fits stops. never limit db stop desk sound fits
       (stop_did text params limit db stop desk command known stops);

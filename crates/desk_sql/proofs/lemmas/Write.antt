@@ -207,7 +207,8 @@ pub changes_by : (text : List ℕ) (params : Row) (Change : Tables → Tables �
     × (new.schema ≡ old.schema))
     → Changes text params Change
 changes_by text params Change command known writing gives = record {
-  plain = λ schema desk. subst (λ s. IsPlain (understood s text)) (sym desk.is) (known (beside_of schema)).plain;
+  plain = λ schema desk. subst (λ s. IsPlain (understood s text)) (sym desk.is)
+      (known (beside_of schema)).plain;
   writes = λ schema desk.
       let here = known (beside_of schema) in
       subst (λ s. IsWriting (understood s text)) (sym desk.is)

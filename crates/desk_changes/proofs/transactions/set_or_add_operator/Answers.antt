@@ -55,7 +55,8 @@ returns-in_err-insert_operator-clause-changed g c =
     (fits_unlisted name ceiling count.count (state g.S.Store old).now (state g.S.Store mid).now
     (count.ensures.counted early) zero (was.done early).changed (was.room early) fits.0 fits.1) clean)) in
     let reported = c.from_residual-in_err-insert_operator in
-    refused_changed g.S.Store old mid new reported.result _ reported.ensures.1 added last.remembered last.undone refused
+    refused_changed g.S.Store old mid new reported.result _ reported.ensures.1 added last.remembered
+    last.undone refused
 
 pub returns-clause-changed : goal.returns-clause-changed
 returns-clause-changed g c =

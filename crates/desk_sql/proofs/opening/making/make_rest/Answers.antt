@@ -17,7 +17,8 @@ steps-preserved g c =
       grown_more g.S.Store c.args.made c.steps.at c.in-Some.next old mid new c.steps.invariant.1
           c.run.ensures.remembered
           (λ clean. grows g.S.Store c.steps.at c.in-Some.next mid new c.in-Some.text.now
-          (λ none. omega (arith, none, c.in-Some.ensures.one_fewer)) c.in-Some.ensures.step.extends (λ clean live. (c.steps.invariant.1.grown clean (inr live)).has)
+          (λ none. omega (arith, none, c.in-Some.ensures.one_fewer)) c.in-Some.ensures.step.extends
+          (λ clean live. (c.steps.invariant.1.grown clean (inr live)).has)
           (omega (arith, c.run.ensures.remembered.doubt, clean)) (c.in_ok-run.ensures.shown clean)
           c.in_ok-run.field-0 (c.in_ok-run.ensures.ran clean)),
       λ clean _. (c.in_ok-run.ensures.shown clean).is_open,

@@ -1,9 +1,3 @@
-use Rattle.desk_sql.proofs.lemmas.Beside.{others_fit}
-use Rattle.desk_sql.proofs.lemmas.Key.{were_there}
-use Rattle.desk_sql.proofs.lemmas.Size.{span_stored}
-use Rattle.desk_sql.proofs.lemmas.Stop.{sure_change}
-use Rattle.desk_sql.proofs.lemmas.Cascade.{all_go}
-use Rattle.desk_sql.proofs.lemmas.OldTexts.{empty_old_spans_is}
 use Rattle.std.proofs.Common.{arith}
 use Rattle.std.proofs.lemmas.Bool.{both_ways}
 use Rattle.desk_sql.specs.Schema.{IsSchemaOf}

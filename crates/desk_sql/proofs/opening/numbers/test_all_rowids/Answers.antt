@@ -16,7 +16,8 @@ returns-clause-numbered g c =
     let five = still_held g.S.Store _ _ Is c.test_rowids_if_made-5.ensures.reads four in
     let six = still_held g.S.Store _ _ Is c.test_rowids_if_made-6.ensures.reads five in
     let seven = still_held g.S.Store _ _ Is c.test_rowids_if_made-7.ensures.reads six in
-    let schema : Holds g.S.Store c.test_rowids_if_made-8.new.connection (λ db. IsSchemaOf c.args.made db.schema) =
+    let schema : Holds g.S.Store c.test_rowids_if_made-8.new.connection
+    (λ db. IsSchemaOf c.args.made db.schema) =
     still_held g.S.Store _ _ Is c.test_rowids_if_made-8.ensures.reads seven in
     let rows : OnOk c.test_rowids_if_made-8.result
     (Holds g.S.Store c.test_rowids_if_made-8.new.connection (λ db. AreNumberedTo c.args.made db.trees)) =
