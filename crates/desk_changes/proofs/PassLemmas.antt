@@ -19,7 +19,6 @@ use Rattle.sqlite_schema.specs.Rules.{passes, has_null, parent_key, Keeps, Refer
 use Rattle.sqlite_schema.specs.declared.schema.Among.TheVariants.{All}
 use Rattle.sqlite_schema.specs.declared.schema.Constraint.TheVariants.{Datatype, NotNull, Check, PrimaryKey, Unique, ForeignKey}
 use Rattle.sqlite_schema.specs.declared.schema.Keys.TheVariants.{Enforced}
-use Rattle.desk_sql.proofs.lemmas.Number.{unequal}
 use Rattle.desk_changes.proofs.DeleteStops.{never_ends}
 use Rattle.desk_sql.specs.Schema.{Beside, StandsApart, desk_with}
 use Rattle.desk_sql.proofs.lemmas.Beside.{trees_apart}

@@ -17,7 +17,7 @@ use Rattle.sqlite.specs.Does.{Tally, OnRows}
 use Rattle.sqlite_schema.specs.declared.schema.Column.{Column}
 use Rattle.sqlite_schema.specs.declared.schema.Reference.{Reference}
 use Rattle.sqlite.specs.State.{State, Executes}
-use Rattle.desk_sql.specs.Schema.{operator_table, plan_table, volume_table, span_table, Beside, StandsApart, desk_with}
+use Rattle.desk_sql.specs.Schema.{operator_table, plan_table, volume_table, span_table, Beside, StandsApart}
 use Rattle.desk_changes.specs.declared.writing.PlanRecord.{PlanRecord}
 use Rattle.desk_changes.specs.declared.writing.VolumeRecord.{VolumeRecord}
 use Rattle.desk_changes.specs.declared.writing.SpanRecord.{SpanRecord}

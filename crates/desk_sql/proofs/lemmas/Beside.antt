@@ -1,6 +1,6 @@
 -- What stands apart beside the desk's tables takes no part in what is done to these.
 use Rattle.std.proofs.Common.{◌≡◌, ◌≢◌, ◌<◌, ◌≤◌, ◌++◌, ◌||◌, cond, codes, inl, inr, ℕ, Bool, true, false, List, [], ◌∷◌, Option, Some, None, find, append-nil, refl, sym, ap, ap₂, subst, ◌∙◌, arith, eqb-true}
-use Rattle.std.specs.List.{AllByRecursion, cons_option, filter_map, flat_map, list_all, list_any}
+use Rattle.std.specs.List.{AllByRecursion, cons_option, filter_map, flat_map, list_all}
 use Rattle.std.specs.Option.{option_and_then}
 use Rattle.std.proofs.lemmas.Bool.{and_parts, false_from_ne_true, ltb-true, ne_eqb, not-true, not_from_false, or_left, both_ways}
 use Rattle.std.proofs.lemmas.Grind.{flat_map-append}
@@ -14,7 +14,7 @@ use Rattle.sqlite_rules.specs.declared.action.Deed.{Deed}
 use Rattle.sqlite_rules.proofs.ListLemmas.{all_from, all_has, some_from, test_from, test_has}
 use Rattle.sqlite_rules.proofs.RuleLemmas.{parent_is_table}
 use Rattle.sqlite_schema.specs.Names.{same_name}
-use Rattle.sqlite_schema.specs.Rules.{ParentKey, is_key_if_to, is_key_of, key_in, key_places, parent_key, guards}
+use Rattle.sqlite_schema.specs.Rules.{ParentKey, is_key_if_to, key_in, key_places, parent_key, guards}
 use Rattle.sqlite_schema.specs.declared.schema.Index.{Index}
 use Rattle.sqlite_schema.specs.declared.schema.Keys.{Keys}
 use Rattle.sqlite_schema.specs.declared.schema.Reference.{Reference}
