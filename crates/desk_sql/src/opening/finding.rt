@@ -27,7 +27,8 @@ pub enum TablesPresent {
     Volumes,
     /// There are these and `span2`.
     Spans,
-    /// There are these and the index over the leaves of `span2`.
+    /// There are these and the index over the leaves of `span2`. Other tables, indexes and views may stand
+    /// apart behind them: no table refers to one of these, and no index is on one.
     All,
     /// There are all, but the tables come before the indexes, as after a VACUUM.
     Packed,
@@ -66,8 +67,8 @@ impl TablesPresent {
     }
 }
 
-/// Which tables and indexes of the schema the database has, or `None` if it has others, or has these in an
-/// order that is neither canonical nor packed. It changes nothing.
+/// Which tables and indexes of the schema the database has, or `None` if it has others that don't stand apart
+/// behind all of them, or has these in an order that is neither canonical nor packed. It changes nothing.
 ///
 /// # Errors
 ///
