@@ -70,7 +70,6 @@ CASES = [
     Case("span_one_short", PLAN + ["UPDATE span2 SET last = last - 1"], "not_a_desk", SPAN),
     Case("span_of_a_closed_plan", PLAN + ["UPDATE plan SET usage = 2"], "not_a_desk", SPAN),
     Case("closed_plan", CLOSED, None),
-    Case("table_beside", PLAN + ["CREATE TABLE other (a)"], "not_a_desk", OTHER),
     # a canon that is not the canonical cover: the four children, nothing, and eight bytes more; of a closed plan too
     Case(
         "canon_of_children",
@@ -98,7 +97,6 @@ CASES = [
     Case("no_index", PLAN + NO_INDEX, None),
     Case("no_index_no_rows", NO_INDEX, None),
     Case("no_index_span_missing", PLAN + NO_INDEX + ["DELETE FROM span2"], "not_a_desk", SPAN),
-    Case("no_index_table_beside", PLAN + NO_INDEX + ["CREATE TABLE other (a)"], "not_a_desk", OTHER),
     Case(
         "index_of_two_columns",
         PLAN + NO_INDEX + ["CREATE INDEX span2_first ON span2 (first, last)"],
@@ -106,7 +104,6 @@ CASES = [
         OTHER,
     ),
     Case("index_unique", PLAN + NO_INDEX + [SCHEMA[7].replace("INDEX", "UNIQUE INDEX")], "not_a_desk", OTHER),
-    Case("index_beside", PLAN + ["CREATE INDEX other ON plan (priority)"], "not_a_desk", OTHER),
     Case("no_old_index", PLAN + DROPPED[3:4], "not_a_desk", OTHER),
     # the first tables alone, and others alone
     Case("operators_alone", ENROLLED + DROPPED[:7], None),
@@ -116,7 +113,6 @@ CASES = [
     Case("plans_without_volumes", PLAN + DROPPED[:6], "not_a_desk", VOLUME),
     Case("volumes_without_spans", PLAN + DROPPED[:2], "not_a_desk", SPAN),
     Case("spans_without_volumes", DROPPED[2:3], "not_a_desk", OTHER),
-    Case("operators_and_another", ENROLLED + DROPPED[:7] + ["CREATE TABLE other (a)"], "not_a_desk", OTHER),
     # schema 1: with no plan it gets what is missing; a row in it is told before all that is wrong
     Case("old_no_plans", ENROLLED + DROPPED[:3], None),
     Case("old_no_index", ENROLLED + DROPPED[:4], None),
@@ -126,7 +122,6 @@ CASES = [
     Case("old_plan_beside_tables", OLD, "old_schema"),
     Case("old_span_alone", PLAN + [OLD_SPAN], "old_schema", BOTH),
     Case("old_volume_alone", PLAN + [OLD_VOLUME], "old_schema", BOTH),
-    Case("old_table_beside", OLD + DROPPED[:3] + ["CREATE TABLE other (a)"], "not_a_desk", OTHER),
 ]
 
 

@@ -6,7 +6,7 @@ use Rattle.sqlite_disk.specs.declared.Disk as disk
 use Rattle.sqlite_disk.specs.declared.Files.{Files}
 use Rattle.sqlite_wal.specs.{Reads.AreClean, Recovery.Image}
 use Rattle.sqlite_store.specs.declared.store.FileStore.{FileStore}
-use Rattle.sqlite.specs.{Closing.IsCopied as IsClosedInto, Files.over_files, Held.Held}
+use Rattle.sqlite.specs.{Closing.IsCopied as IsClosedInto, Files.over_files, Files.file_state, Held.Held}
 use Rattle.desk_store.specs.World.{World}
 use Rattle.desk_wire.specs.Streams.{Course, course}
 use Rattle.db_file.specs.Orders.{order_text}
@@ -14,7 +14,7 @@ use Rattle.row_codec.specs.SpanBounds.{HaveSpanRows, IsMostCells, IsMostSpans}
 use Rattle.table_load.specs.declared.{fault.OpenFault.OpenFault, naming.InvalidPart.InvalidPart, looking.DbStats.DbStats}
 use Rattle.table_load.specs.declared.fault.OpenFault.TheVariants as opening
 use Rattle.table_load.specs.declared.naming.InvalidPart.TheVariants as part
-use Rattle.table_load.specs.{Moving.AreStatsOf, Moving.live_count, Files.IsSettledAt}
+use Rattle.table_load.specs.{Moving.AreStatsOf, Moving.has_others, Moving.live_count, Files.IsSettledAt}
 use Rattle.desk_tables.specs.declared.{opening.files.FilesFault.FilesFault, opening.files.CopyFault.CopyFault, closing.CheckpointError.CheckpointError}
 use Rattle.desk_tables.specs.{Store.IsLeftUnclosed, Copying.AreNotCopied, Copying.AreNotRead, Copying.IsMadeIn, Copying.LooksIn}
 use Rattle.desk_tables.specs.declared.opening.files.CopyFault.TheVariants as copy
@@ -23,7 +23,7 @@ use Rattle.desk_cli.specs.{Exits.Ending, Exits.FailsWith, Lines.file_of}
 use Rattle.desk_cli.specs.declared.failure.ErrorCode.TheVariants as failure
 use Rattle.desk_program.specs.{Keeping.bytes_written, Keeping.ended, Enrolling.IsTextPrinted, Enrolling.checked_line, Enrolling.copied_line}
 use Rattle.desk_program.specs.declared.looking.CheckedFile.{CheckedFile}
-use Rattle.host_files.specs.Naming.{Steps, Follows, HasFailedStep, IsNamed, IsUnnamed, Synced, free_steps, named_steps, Reports}
+use Rattle.host_files.specs.Naming.{Steps, Follows, HasFailedStep, IsNamed, IsUnnamed, Synced, free_steps, named_steps, IsWrittenIfRoom, line_of, Reports}
 use Rattle.desk_admin.specs.declared.{keeping.Writers.Writers, keeping.CopyError.CopyError, unopened.OpenError.OpenError}
 
 -- the steps in folders; the bytes printed to the output; and how the command ended, with what went to errors
@@ -224,11 +224,28 @@ module _ {D E : Type 0} {g : disk.Ghosts D} (k : disk.Ghosts E) (image other : I
 abbrev pub CopyOutcome : {D E : Type 0} → disk.Ghosts D → disk.Ghosts E → Type 0
 CopyOutcome {D} {E} g k = Result (Held (FileStore D g) × (Files E × DbStats)) (CopyEnd g k)
 
+-- what is reported of a file with tables, indexes or views beside the desk's
+abbrev pub others_text : List ℕ
+others_text = codes "other tables, indexes or views are not copied"
+
+-- so it is reported of the file at a path, if it has others; else nothing is reported
+abbrev pub ReportsOthers : Bool → List ℕ → Course (Option (List ℕ)) → Type 0
+ReportsOthers true path writes = IsWrittenIfRoom (line_of path others_text) writes
+ReportsOthers false path writes = writes.after ≡ writes.before
+
+-- what `copy` reports and prints: whether the file has others that are not copied; then the counts
+pub record IsCopyReported {D E : Type 0} {g : disk.Ghosts D} (database : Database) (o : AdminOutside)
+    (copies : Held (FileStore D g) × (Files E × DbStats)) : Type 0 where
+  pub between : Option (List ℕ)
+  pub reported : (path : List ℕ) → file_of database ≡ Some path
+      → ReportsOthers (has_others (file_state copies.0).now.schema) path (course o.end.before between)
+  pub printed : IsTextPrinted (copied_line copies.1.1.operators copies.1.1.plans)
+      (record o.end { before = between }) o.writes.before o.writes.after
+
 module _ {D E : Type 0} {g : disk.Ghosts D} {k : disk.Ghosts E} (image other : Image) where
-  -- the result of `copy`: the files are copied, and the counts are printed; or the failure is reported
+  -- the result of `copy`: the files are copied, which is reported; or the failure is reported
   abbrev pub IsCopied : Database → AdminOutside → CopyOutcome g k → Type 0
-  IsCopied database o (Ok copies) = IsCopyMade k image other copies
-      × IsTextPrinted (copied_line copies.1.1.operators copies.1.1.plans) o.end o.writes.before o.writes.after
+  IsCopied database o (Ok copies) = IsCopyMade k image other copies × IsCopyReported database o copies
   IsCopied database o (Err it) = IsUncopied image other database o it
 
 -- the error of a copy once its files were written: that of `copied`; or `Store`, since a step in the folder

@@ -4,9 +4,11 @@ ghost use Rattle.std.specs.Prelude.{◌≡◌, ℕ, [], List, IfErr, IfOk, IfSom
 ghost use Rattle.sqlite_wal.specs.{Files.image_at, Recovery.Image};
 ghost use Rattle.desk_store.specs.World.{World};
 ghost use Rattle.desk_program.specs.{Enrolling.IsTextPrinted, Enrolling.copied_line, Keeping.bytes_written, Keeping.ended};
-ghost use Rattle.table_load.specs.Moving.{AreStatsOf};
+ghost use Rattle.sqlite.specs.{Files.file_state};
+ghost use Rattle.desk_cli.specs.Lines.{file_of};
+ghost use Rattle.table_load.specs.Moving.{AreStatsOf, has_others};
 ghost use Rattle.desk_tables.specs.Copying.{AreNotCopied};
-ghost use Rattle.desk_admin.specs.FilesReported.{FailsAtFiles, FailsBy, FailsReporting, FailsToCopy, FailsToLook, FailsToRead, FailsUntried, IsChecked, IsCopied, IsCopyMade, IsNamedIf, IsReadAs, IsAsCopied, IsNamedNow, ReportsHoldings, admin_outside};
+ghost use Rattle.desk_admin.specs.FilesReported.{FailsAtFiles, FailsBy, FailsReporting, FailsToCopy, FailsToLook, FailsToRead, FailsUntried, IsChecked, IsCopied, IsCopyMade, IsNamedIf, IsReadAs, IsAsCopied, IsNamedNow, ReportsHoldings, ReportsOthers, admin_outside};
 ghost use Rattle.host_files.specs.Naming.{Reports, AreNames, ChangesOwn, Follows, GivesUp, HasFailedStep, IsNotFree, IsUnnamed, LeavesOthers, Synced, TakesAll, free_steps, named_steps};
 ghost use Rattle.desk_admin.specs.ScratchCopies.{IsStoredAs, found_size};
 ghost use Rattle.host_files.specs.Paths.{steps_of};
@@ -28,6 +30,7 @@ use sqlite_disk::Disk;
 use std::alloc::{AllocError, Global};
 use std::io::{ErrorKind, Write};
 use std::snapshot::Snapshot;
+use table_load::looking::has_others;
 
 /// A connection with which a file was read. `F` is a type that stands for the content of the file before.
 pub type ReadConnection<F> = Connection<FileStore<FileFrom<F>>>;
@@ -297,6 +300,7 @@ pub fn copy_file<F: Start, N: Start, P: Folder, W: Write + Drop, E: Write + Drop
 {
     match copy_database(host, folder, words, scratch, starts, &mut writers.errors) {
         Ok(copies) => {
+            report_others(host.alloc(), &words.database, &copies.0, &mut writers.errors);
             let exit = print_holdings(
                 host.alloc(),
                 &copies.1.1,
@@ -320,6 +324,26 @@ pub fn status_copied<D: Disk + Drop, N: Disk + Drop, E>(
 {
     let (exit, _) = copied;
     exit.status
+}
+
+// Reports that tables, indexes and views beside the desk's are not copied, if the `database` that `connection`
+// shows is in a file and has any. A failed write and running out of memory are ignored.
+fn report_others<D: Disk, E: Write>(
+    alloc: Global,
+    database: &Database,
+    connection: &Connection<FileStore<D>>,
+    errors: &mut E,
+)
+    ensures reported { (path : List ℕ) → file_of database.now ≡ Some path
+        → ReportsOthers (has_others (file_state connection.now).now.schema) path
+        (bytes_written E.Write errors.old errors.new) }
+{
+    if has_others(connection)
+        && let Some(path) = database.path()
+    {
+        let text = "other tables, indexes or views are not copied";
+        report_text(alloc, path, text, errors);
+    }
 }
 
 // Prints how many operators and plans were copied (`holdings`), or the error code to `errors` if that write

@@ -125,6 +125,7 @@ module _ {S : Type 0} (g : Ghosts S) (old new : Held S) (w : World) (stood : Sta
         let two = tables_of db in
         record {
           content = change_content change w before.content (fits start) within;
+          listed = _;
           desk = made.desk;
           sound = made.sound;
           tables = change_tables change w one two before.content within before.tables

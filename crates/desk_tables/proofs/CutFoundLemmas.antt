@@ -1,5 +1,5 @@
 -- What a start finds after one that was cut short.
-use Rattle.std.proofs.Common.{◌≡◌, inl, inr, ℕ, Bool, true, false, length, slice_index_or, refl, sym, ap, subst, ◌∙◌, IsTrue, true≢false}
+use Rattle.std.proofs.Common.{◌≡◌, inl, inr, ℕ, Bool, true, false, length, take, slice_index_or, refl, sym, ap, subst, ◌∙◌, IsTrue, true≢false}
 use Rattle.std.specs.Prelude.{◌==◌, ◌+◌, ◌*◌, if◌then◌else◌}
 use Rattle.std.proofs.Math.Logic.{∥∥₁_map}
 use Rattle.sqlite_trees.specs.declared.store.Store.{Ghosts}
@@ -18,7 +18,7 @@ use Rattle.volume4d.specs.Footprint.{footprint_bytes, HasValidParts}
 use Rattle.volume4d.specs.Volume.{Shape}
 use Rattle.desk_sql.specs.declared.opening.finding.TablesPresent.{TablesPresent}
 use Rattle.desk_sql.specs.declared.opening.finding.TablesPresent.TheVariants.{Nothing, Operators, Plans, OldVolumes, OldSpans, OldIndex, Volumes, Spans, All, Packed}
-use Rattle.desk_sql.specs.Schema.{desk_schema, operator_made, schema_of}
+use Rattle.desk_sql.specs.Schema.{operator_made, IsSchemaOf}
 use Rattle.desk_sql.specs.Rows.{Tables, tables_of, tables_at, has_old_rows}
 use Rattle.desk_store.specs.World.{World}
 use Rattle.sqlite_wal.proofs.LogLemmas.{SeenMayStay}
@@ -32,10 +32,11 @@ use Rattle.table_load.proofs.lemmas.Content.{of_rows}
 use Rattle.table_load.proofs.lemmas.Opening.{made_desk, old_rows_none}
 use Rattle.table_load.proofs.lemmas.Store.{nothing_holds}
 
--- ---- a schema says what is made
+-- ---- a schema says what is made, whatever stands beside it
 
 abbrev number_of : Schema → ℕ
-number_of s = length s.tables + 2 * length s.indexes + (slice_index_or s.tables 4 operator_made).tree
+number_of s =
+    length (take 6 s.tables) + 2 * length (take 8 s.indexes) + (slice_index_or s.tables 4 operator_made).tree
 
 abbrev made_at : ℕ → TablesPresent
 made_at n =
@@ -50,20 +51,23 @@ made_at n =
     else if n == 30 then Packed
     else All
 
-made_again : (made : TablesPresent) → made_at (number_of (schema_of made)) ≡ made
-made_again Nothing = refl
-made_again Operators = refl
-made_again Plans = refl
-made_again OldVolumes = refl
-made_again OldSpans = refl
-made_again OldIndex = refl
-made_again Volumes = refl
-made_again Spans = refl
-made_again All = refl
-made_again Packed = refl
+made_at_schema : Schema → TablesPresent
+made_at_schema schema = made_at (number_of schema)
 
-one_made : (a b : TablesPresent) → schema_of a ≡ schema_of b → a ≡ b
-one_made a b same = sym (made_again a) ∙ ap (λ s. made_at (number_of s)) same ∙ made_again b
+made_again : (made : TablesPresent) (schema : Schema) → IsSchemaOf made schema → made_at_schema schema ≡ made
+made_again Nothing schema is = ap made_at_schema is
+made_again Operators schema is = ap made_at_schema is
+made_again Plans schema is = ap made_at_schema is
+made_again OldVolumes schema is = ap made_at_schema is
+made_again OldSpans schema is = ap made_at_schema is
+made_again OldIndex schema is = ap made_at_schema is
+made_again Volumes schema is = ap made_at_schema is
+made_again Spans schema is = ap made_at_schema is
+made_again All schema is = ap made_at_schema is.is
+made_again Packed schema is = ap made_at_schema is
+
+pub one_made : (a b : TablesPresent) (schema : Schema) → IsSchemaOf a schema → IsSchemaOf b schema → a ≡ b
+one_made a b schema one other = sym (made_again a schema one) ∙ made_again b schema other
 
 -- ---- a database has one content at most
 
@@ -79,7 +83,7 @@ module _ (one_shape : (one other : Shape) → HasValidParts one → HasValidPart
 
   pub one_held : (db : Database) (v w : World) → HasContent v db → HasContent w db → v ≡ w
   one_held db v w (one, a) (other, b) =
-      let made = one_made b.made a.made (sym b.desk.schema ∙ a.desk.schema) in
+      let made = one_made b.made a.made db.schema b.desk.schema a.desk.schema in
       let old : other ≡ one = sym b.schema
       ∙ ap (λ m. has_old_rows (tables_at m db.trees)) made ∙ a.schema in
       one_in one (tables_at a.made db.trees) v w a.rows
@@ -109,18 +113,14 @@ same_database a b one other same =
     λ i. record { schema = schema i; trees = same i }
 
 module _ (db : Database) (sound : IsDatabase db) where
-  as_desk : (trees : Trees) → db.trees ≡ trees → IsDatabase (record { schema = desk_schema; trees = trees })
-      → db ≡ record { schema = desk_schema; trees = trees }
-  as_desk trees is other =
-      same_database db (record { schema = desk_schema; trees = trees }) sound other is
-
   whole_holds : (trees : Trees) (w : World) → db.trees ≡ trees → HasWorld trees w → HasContent w db
   whole_holds trees w is it =
-      subst (HasContent w) (sym (as_desk trees is it.sound)) (
+      let there : Database = record { schema = it.listed; trees = trees } in
+      subst (HasContent w) (sym (same_database db there sound it.sound is)) (
         false,
         record {
           made = All;
-          desk = made_desk (record { schema = desk_schema; trees = trees }) it.desk;
+          desk = made_desk there it.desk;
           schema = old_rows_none (tables_of trees) it.tables.old;
           rows = record { content = it.content; tables = it.tables };
         },
@@ -128,11 +128,12 @@ module _ (db : Database) (sound : IsDatabase db) where
 
   old_holds : (trees : Trees) (w : World) → db.trees ≡ trees → HasOldWorld trees w → HasContent w db
   old_holds trees w is it =
-      subst (HasContent w) (sym (as_desk trees is it.sound)) (
+      let there : Database = record { schema = it.listed; trees = trees } in
+      subst (HasContent w) (sym (same_database db there sound it.sound is)) (
         true,
         record {
           made = All;
-          desk = made_desk (record { schema = desk_schema; trees = trees }) it.desk;
+          desk = made_desk there it.desk;
           schema = it.schema;
           rows = it.rows;
         },

@@ -1,5 +1,5 @@
 -- What a crash leaves is read as one content.
-use Rattle.std.proofs.Common.{◌≡◌, ◌⊎◌, inl, inr, ◌≢◌, Option, Some, None, Result, Ok, Err, IfOk, IsTrue, length, slice_index_or, refl, sym, ap, subst, ◌∙◌, arith, true, false, true≢false}
+use Rattle.std.proofs.Common.{◌≡◌, ◌⊎◌, inl, inr, ◌≢◌, Option, Some, None, Result, Ok, Err, IfOk, IsTrue, refl, sym, ap, subst, ◌∙◌, arith, true, false, true≢false}
 use Rattle.std.specs.Coded.{Coded-set}
 use Rattle.std.proofs.Math.Logic.{∥∥₁_elim, ∥∥₁_map}
 use Rattle.sqlite_trees.specs.declared.store.Store.{Ghosts}
@@ -16,7 +16,7 @@ use Rattle.sqlite.specs.Files.{over_files, file_state}
 use Rattle.sqlite.proofs.Theorems.{next_run}
 use Rattle.desk_sql.specs.declared.opening.finding.TablesPresent.{TablesPresent}
 use Rattle.desk_sql.specs.declared.opening.finding.TablesPresent.TheVariants.{Nothing, Operators, Plans, OldVolumes, OldSpans, OldIndex, Volumes, Spans, All, Packed}
-use Rattle.desk_sql.specs.Schema.{blank_schema, desk_schema, schema_of, operator_made}
+use Rattle.desk_sql.specs.Schema.{blank_schema, IsSchemaOf}
 use Rattle.desk_sql.specs.Rows.{IsDesk, IsMadeTo, Tables, tables_of, tables_at, has_old_rows}
 use Rattle.desk_store.specs.World.{World, LeavesOnly, LeavesOldOr, IsContent}
 use Rattle.desk_store.specs.contracts.list.ListStore as list
@@ -36,6 +36,7 @@ use Rattle.table_load.proofs.lemmas.Opening.{desk_made, made_desk, old_rows_none
 use Rattle.desk_sql.specs.Statements.{IsMisnumbered}
 use Rattle.table_load.specs.Opening.{IsNoDesk}
 use Rattle.table_load.specs.Opening.{HasOldRows}
+use Rattle.desk_tables.proofs.CutFoundLemmas.{one_made}
 
 -- what a start does not take for the schema's tables as they are
 abbrev pub IsNotTakenAsIs : Database → Type 0
@@ -52,12 +53,9 @@ reads_standing : {S : Type 0} (g : Ghosts S) (h : Held S) (w : World) (db : Tree
     → IsDatabase (state g h).now → (state g h).now.trees ≡ db → HasWorld db w
 reads_standing g h w db it sound is = record {
   content = it.content;
-  desk = subst (λ trees. IsDesk (record { schema = desk_schema; trees = trees })) is
-      (subst (λ schema. IsDesk (record { schema = schema; trees = (state g h).now.trees }))
-      it.desk.schema it.desk);
-  sound = subst (λ trees. IsDatabase (record { schema = desk_schema; trees = trees })) is
-      (subst (λ schema. IsDatabase (record { schema = schema; trees = (state g h).now.trees }))
-      it.desk.schema sound);
+  listed = (state g h).now.schema;
+  desk = subst (λ trees. IsDesk (record { schema = (state g h).now.schema; trees = trees })) is it.desk;
+  sound = subst (λ trees. IsDatabase (record { schema = (state g h).now.schema; trees = trees })) is sound;
   tables = subst (λ trees. AreTables (tables_of trees) w) is it.tables;
 }
 
@@ -89,20 +87,6 @@ module _ (law : HaveOneContent) where
 
 -- ---- over files
 
--- part of the tables and the index is not a desk's schema, nor is that of a packed file
-only_all : (made : TablesPresent) → schema_of made ≡ desk_schema → made ≡ All
-only_all Nothing e = let tables : 0 ≡ 6 = ap (λ s. length s.tables) e in absurd (omega (arith, tables))
-only_all Operators e = let tables : 1 ≡ 6 = ap (λ s. length s.tables) e in absurd (omega (arith, tables))
-only_all Plans e = let tables : 2 ≡ 6 = ap (λ s. length s.tables) e in absurd (omega (arith, tables))
-only_all OldVolumes e = let tables : 3 ≡ 6 = ap (λ s. length s.tables) e in absurd (omega (arith, tables))
-only_all OldSpans e = let tables : 4 ≡ 6 = ap (λ s. length s.tables) e in absurd (omega (arith, tables))
-only_all OldIndex e = let tables : 4 ≡ 6 = ap (λ s. length s.tables) e in absurd (omega (arith, tables))
-only_all Volumes e = let tables : 5 ≡ 6 = ap (λ s. length s.tables) e in absurd (omega (arith, tables))
-only_all Spans e = let indexes : 7 ≡ 8 = ap (λ s. length s.indexes) e in absurd (omega (arith, indexes))
-only_all All e = refl
-only_all Packed e = let trees : 8 ≡ 9 = ap (λ s. (slice_index_or s.tables 4 operator_made).tree) e in
-    absurd (omega (arith, trees))
-
 all_or : (made : TablesPresent) → ¬ (made ≢ All) → made ≡ All
 all_or Nothing never = absurd (never (λ e. cc))
 all_or Operators never = absurd (never (λ e. cc))
@@ -129,17 +113,20 @@ nothing_made db blank = record {
 -- what is taken for no desk's is read as none
 untaken : (db : Database) → IsDatabase db → IsNotTakenAsIs db → ReadsAs db.trees None
 untaken db sound un w has =
-    let same : db.schema ≡ desk_schema = lists_once _ db.schema desk_schema sound.lists has.sound.lists in
+    let same : has.listed ≡ db.schema = lists_once _ has.listed db.schema has.sound.lists sound.lists in
+    let desk : IsDesk db =
+    subst (λ schema. IsDesk (record { schema = schema; trees = db.trees })) same has.desk in
+    let all : (made : TablesPresent) → IsSchemaOf made db.schema → made ≡ All =
+    λ made is. one_made made All db.schema is desk.schema in
     elim un [
-      | inl (made, part) ↦ part.missing (only_all made (sym part.part.schema ∙ same))
+      | inl (made, part) ↦ part.missing (all made part.part.schema)
       | inr (inl numbers) ↦ numbers.unsound (subst (λ made. IsMadeTo made db)
-          (sym (only_all numbers.made (sym numbers.schema ∙ same))) (made_desk db
-          (subst (λ schema. IsDesk (record { schema = schema; trees = db.trees })) (sym same) has.desk)))
-      | inr (inr (inl (inl others))) ↦ others All same
+          (sym (all numbers.made numbers.schema)) (made_desk db desk))
+      | inr (inr (inl (inl others))) ↦ others All desk.schema
       | inr (inr (inl (inr none))) ↦ subst (λ made. AreNoContent (tables_at made db.trees))
-          (only_all none.made (sym none.desk.schema ∙ same)) none.none w has.content has.tables
+          (all none.made none.desk.schema) none.none w has.content has.tables
       | inr (inr (inr rows)) ↦ true≢false (sym (subst (λ made. has_old_rows (tables_at made db.trees) ≡ true)
-          (only_all rows.made (sym rows.desk.schema ∙ same)) rows.old)
+          (all rows.made rows.desk.schema) rows.old)
           ∙ old_rows_none (tables_of db.trees) has.tables.old)
     ]
 

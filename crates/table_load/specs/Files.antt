@@ -4,7 +4,7 @@ use Rattle.sqlite_disk.specs.declared.Disk as disk
 use Rattle.sqlite_disk.specs.Events.{Event, HasCollision}
 use Rattle.sqlite_store.specs.declared.store.FileStore.{FileStore}
 use Rattle.sqlite_store.specs.{FileStore.files, FileStore.view, Unopened.state_of}
-use Rattle.sqlite.specs.{Held.Held, Held.AreDatabases, Held.IsNew, Held.state, State.HasCleanDisk, Files.file_state, Files.image_of, Files.IsCleanLeft, Files.LeavesFiles, Files.SaysSums, Files.over_files, Files.IsBlankAs, Files.IsOpened, Start.FindsIn, Tree.Trees, Effect.Database, Effect.IsDatabase}
+use Rattle.sqlite.specs.{Held.Held, Held.AreDatabases, Held.IsNew, Held.state, State.HasCleanDisk, Files.file_state, Files.image_of, Files.IsCleanLeft, Files.LeavesFiles, Files.SaysSums, Files.over_files, Files.IsBlankAs, Files.IsOpened, Start.FindsIn, Tree.Trees, Schema.Schema, Effect.Database, Effect.IsDatabase}
 use Rattle.sqlite_disk.specs.declared.Files.{Files}
 use Rattle.sqlite_wal.specs.{Files.outcomes, Recovery.Image}
 use Rattle.sqlite_pool.specs.Stored.{is_summed, stored_size}
@@ -14,7 +14,7 @@ use Rattle.sqlite.specs.declared.file.Leftover.TheVariants as left
 use Rattle.sqlite_trees.specs.View.{doubt as doubt_of}
 use Rattle.sqlite_trees.specs.declared.store.Store.{Ghosts}
 use Rattle.desk_store.specs.World.{World, LeavesOnly, IsContent}
-use Rattle.desk_sql.specs.{Effects.IsOpenIfClean, Effects.StaysShown, Schema.desk_schema, Rows.IsDesk, Rows.tables_of, Statements.HasDiskFailed, Statements.IsMisnumbered}
+use Rattle.desk_sql.specs.{Effects.IsOpenIfClean, Effects.StaysShown, Rows.IsDesk, Rows.tables_of, Statements.HasDiskFailed, Statements.IsMisnumbered}
 use Rattle.desk_sql.specs.declared.opening.finding.TablesPresent.{TablesPresent}
 use Rattle.row_codec.specs.Tables.{AreTables}
 use Rattle.table_load.specs.declared.{fault.OpenFault.OpenFault, fault.OpenFault.TheVariants.NotADesk, fault.OpenFault.TheVariants.OldSchema, fault.OpenFault.TheVariants.OutOfMemory, path.NotOpened.NotOpened}
@@ -172,11 +172,12 @@ module _ {D : Type 0} {g : disk.Ghosts D} (image : Image) (e : OpenFault) where
   AreNotMoved (Err it) = IsOfUnreached image e it
 
 -- ==== What a crash leaves of a store over tables, and what a start reads in it
--- the trees are a desk's, list and obey its schema, and their rows are those of the content
+-- the trees list and obey a desk's schema, beside which others may stand, and their rows are those of the content
 pub record HasWorld (db : Trees) (w : World) : Type 0 where
   pub content : IsContent w
-  pub desk : IsDesk (record { schema = desk_schema; trees = db })
-  pub sound : IsDatabase (record { schema = desk_schema; trees = db })
+  pub listed : Schema
+  pub desk : IsDesk (record { schema = listed; trees = db })
+  pub sound : IsDatabase (record { schema = listed; trees = db })
   pub tables : AreTables (tables_of db) w
 
 -- what trees are read as: a content, or None if they are invalid

@@ -1,9 +1,9 @@
 -- How a content of schema 1 is moved to schema 2, and which content a database holds.
-use Rattle.std.specs.Prelude.{◌≡◌, ◌≤◌, ◌⊎◌, ⊤, ℕ, ◌-◌, ◌^◌, true, List, [], ◌∷◌, ◌++◌, length, nat_le, if◌then◌else◌, IsTrue, IsPermutation, Bool, false, filter}
+use Rattle.std.specs.Prelude.{◌≡◌, ◌≤◌, ◌⊎◌, ⊤, ℕ, ◌-◌, ◌^◌, true, List, [], ◌∷◌, ◌++◌, length, nat_le, nat_lt, ◌||◌, if◌then◌else◌, IsTrue, IsPermutation, Bool, false, filter}
 use Rattle.std.specs.List.{AllByRecursion}
 use Rattle.sqlite_trees.specs.declared.store.Store.{Ghosts}
 use Rattle.sqlite_value.specs.Order.{Row}
-use Rattle.sqlite.specs.{Effect.Database, State.HasCleanDisk, Held.Held, Held.state}
+use Rattle.sqlite.specs.{Effect.Database, Schema.Schema, State.HasCleanDisk, Held.Held, Held.state}
 use Rattle.s2_cover.specs.Covers.{canonical_list}
 use Rattle.volume4d.specs.Volume.{Shape, cells, rectangle, shape_positions, Block}
 use Rattle.desk_rules.specs.Outcome.{is_live}
@@ -190,6 +190,11 @@ pub record HoldsContent (old : Bool) (w : World) (db : Database) : Type 0 where
 -- no table at all, other tables than the schema's, or rows of no valid state in either schema
 abbrev pub HoldsNone : Database → Type 0
 HoldsNone db = (db.schema ≡ blank_schema) ⊎ (HasOthers db ⊎ (HasNoContent db ⊎ HasNoOldContent db))
+
+-- another table, index or view stands beside a desk's six tables and eight indexes
+abbrev pub has_others : Schema → Bool
+has_others schema =
+    nat_lt 6 (length schema.tables) || (nat_lt 8 (length schema.indexes) || nat_lt 0 (length schema.views))
 
 -- how many plans are not closed
 abbrev pub live_count : List Filed → ℕ

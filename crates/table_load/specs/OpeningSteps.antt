@@ -4,7 +4,7 @@ use Rattle.std.specs.{List.AllByRecursion, List.Sorted.IsStrictlySortedBy}
 use Rattle.sqlite_value.specs.Order.{Row}
 use Rattle.sqlite_trees.specs.declared.store.Store.{Ghosts}
 use Rattle.sqlite_trees.specs.View.{doubt as doubt_of}
-use Rattle.sqlite.specs.{State.HasCleanDisk, State.KeepsCommit, Held.Held, Held.state, Tree.Trees, Effect.Database, Effect.IsDatabase, Files.file_state, Files.over_files}
+use Rattle.sqlite.specs.{State.HasCleanDisk, State.KeepsCommit, Held.Held, Held.state, Tree.Trees, Schema.Schema, Effect.Database, Effect.IsDatabase, Files.file_state, Files.over_files}
 use Rattle.sqlite_disk.specs.declared.Disk as disk
 use Rattle.sqlite_wal.specs.Recovery.{Image}
 use Rattle.sqlite_store.specs.declared.store.FileStore.{FileStore}
@@ -12,7 +12,7 @@ use Rattle.desk_rules.specs.Limits.{max_priority, is_operator_name}
 use Rattle.desk_store.specs.World.{World, IsId, Filed, Listed, listed_cmp, filed_cmp}
 use Rattle.desk_sql.specs.declared.opening.finding.{TablesPresent.TablesPresent, TablesPresent.TheVariants.Nothing}
 use Rattle.desk_sql.specs.declared.opening.numbers.DeskTable.TheVariants as desk
-use Rattle.desk_sql.specs.{Effects.Holds, Effects.IsOpenIfClean, Effects.Makes, Effects.OnlyReads, Effects.Remembers, Schema.has_table, Schema.desk_schema, Queries.WasOpen, Rows.IsMadeTo, Rows.Tables, Rows.tables_at, Rows.IsDesk, Rows.tables_of, Rows.has_old_rows, Rows.Lists}
+use Rattle.desk_sql.specs.{Effects.Holds, Effects.IsOpenIfClean, Effects.Makes, Effects.OnlyReads, Effects.Remembers, Schema.has_table, Queries.WasOpen, Rows.IsMadeTo, Rows.Tables, Rows.tables_at, Rows.IsDesk, Rows.tables_of, Rows.has_old_rows, Rows.Lists}
 use Rattle.row_codec.specs.declared.exact.RowFault.{RowFault}
 use Rattle.row_codec.specs.declared.exact.RowFault.TheVariants as row
 use Rattle.row_codec.specs.Tables.{AreOperatorRows, ArePlanRows, HaveOperatorsAndRoom, AreSpanRows, row_of_plan}
@@ -150,10 +150,11 @@ module _ {S : Type 0} (g : Ghosts S) (old new : Held S) where
     pub doubt : doubt_of (state g old).is_clean ≤ doubt_of (state g new).is_clean
 
 -- ==== What may be found after an opening that was cut short: the content that was there, in either schema
--- the trees are a desk's, list and obey its schema, and have rows of schema 1, which are those of the content
+-- the trees list and obey a desk's schema, and have rows of schema 1, which are those of the content
 pub record HasOldWorld (db : Trees) (w : World) : Type 0 where
-  pub desk : IsDesk (record { schema = desk_schema; trees = db })
-  pub sound : IsDatabase (record { schema = desk_schema; trees = db })
+  pub listed : Schema
+  pub desk : IsDesk (record { schema = listed; trees = db })
+  pub sound : IsDatabase (record { schema = listed; trees = db })
   pub schema : has_old_rows (tables_of db) ≡ true
   pub rows : IsOldContentOf (tables_of db) w
 

@@ -38,7 +38,8 @@ use volume4d::laws::one_shape;
 /// # Errors
 ///
 /// `OutOfMemory` if memory runs out. `Store` if SQLite fails for another cause. `OldSchema` if there are
-/// rows of schema 1. `NotADesk` if there are other tables, or if the rows aren't those of a valid state.
+/// rows of schema 1. `NotADesk` if the tables aren't a desk's, or if the rows aren't those of a valid
+/// state.
 pub fn load_world<S: Alter>(
     alloc: Global,
     connection: &mut Connection<S>,
@@ -59,8 +60,8 @@ pub fn load_world<S: Alter>(
     load_or_create(alloc, connection, made)
 }
 
-/// Which of the schema's tables there are, and whether they have rows of schema 1. `NotADesk` if there are
-/// other tables.
+/// Which of the schema's tables there are, and whether they have rows of schema 1. `NotADesk` if the
+/// tables aren't a desk's.
 pub(crate) fn find_desk_tables<S: Alter>(
     connection: &mut Connection<S>,
 ) -> Result<(TablesPresent, bool), OpenFault>

@@ -5,6 +5,7 @@ ghost use Rattle.desk_rules.specs.Outcome.{is_live};
 ghost use Rattle.desk_sql.specs.Effects.{OnlyReads, Holds};
 ghost use Rattle.desk_store.specs.World.{World, IsContent};
 ghost use Rattle.row_codec.specs.SpanBounds.{Knows};
+ghost use Rattle.sqlite.specs.{Held.state};
 ghost use Rattle.table_load.specs.{Opening.BlamesDatabase, Opening.HasRowsOld, Opening.HaveFewRows, OpeningSteps.IsRead, OpeningSteps.ShowsPart, Moving.AreStatsOf, Moving.AreNoContentIn, Moving.IsContentIn, Moving.ShowsContent, Moving.ShowsNone};
 ghost use Rattle.table_load.specs.Moving as spec;
 
@@ -45,7 +46,7 @@ pub struct DbStats {
 /// # Errors
 ///
 /// `OutOfMemory` if memory runs out. `Store` if SQLite fails for another cause. `NotADesk` if there is no
-/// table, if there are other tables than the schema's, or if the rows aren't those of a valid state.
+/// table, if the tables aren't a desk's, or if the rows aren't those of a valid state.
 pub fn read_stats<S: Alter>(
     alloc: Global,
     connection: &mut Connection<S>,
@@ -61,6 +62,14 @@ pub fn read_stats<S: Alter>(
 {
     let (content, _, old) = read_content(alloc, connection)?;
     Ok(stats_of(&content, old))
+}
+
+/// Whether another table, index or view stands beside a desk's in the database that `connection` shows.
+pub fn has_others<S: Alter>(connection: &Connection<S>) -> bool
+    ensures { result ≡ spec.has_others (state S.Store connection.now).now.schema }
+{
+    let schema = connection.schema();
+    schema.tables.len() > 6 || schema.indexes.len() > 8 || schema.views.len() > 0
 }
 
 /// The statistics of the state `content`. `is_old` says whether it was read in schema 1.

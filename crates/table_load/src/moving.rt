@@ -46,8 +46,9 @@ const OLD_MAX_COVER: usize = 256;
 ///
 /// # Errors
 ///
-/// `OutOfMemory` if memory runs out. `Store` if SQLite fails for another cause. `NotADesk` if there are
-/// other tables, or if the rows aren't those of a valid state in either schema. The rows stay in each case.
+/// `OutOfMemory` if memory runs out. `Store` if SQLite fails for another cause. `NotADesk` if the
+/// tables aren't a desk's, or if the rows aren't those of a valid state in either schema. The rows stay in
+/// each case.
 pub fn load_or_migrate<S: Alter>(
     alloc: Global,
     connection: &mut Connection<S>,

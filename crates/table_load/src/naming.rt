@@ -35,7 +35,7 @@ use volume4d::laws::one_shape;
 pub enum InvalidPart {
     /// There is no table.
     NoTable,
-    /// There are other tables than the schema's.
+    /// The tables, indexes and views aren't a desk's, or others that stand apart behind all of these.
     OtherTables,
     /// There are rows of schema 1 and rows of schema 2.
     BothSchemas,

@@ -64,7 +64,7 @@ impl<S: Start> SqliteStore<FileStore<FileFrom<S>>> {
     ///
     /// The connection, if there was one, and `OutOfMemory` if memory runs out. `Store` if the files can't be
     /// opened, or if SQLite fails for another cause. `OldSchema` if there are rows of schema 1. `NotADesk`
-    /// if there are other tables than the schema's, or if their rows aren't those of a valid state.
+    /// if the tables aren't a desk's, or if their rows aren't those of a valid state.
     pub fn open_from(
         rt: &HostRuntime,
         path: &str,
@@ -93,8 +93,8 @@ impl<S: Start> SqliteStore<FileStore<FileFrom<S>>> {
     /// # Errors
     ///
     /// The connection, if there was one, and `OutOfMemory` if memory runs out. `Store` if there is no file,
-    /// if the files can't be opened, or if SQLite fails for another cause. `NotADesk` if there are other
-    /// tables than the schema's, or if their rows aren't those of a valid state in either schema.
+    /// if the files can't be opened, or if SQLite fails for another cause. `NotADesk` if the tables
+    /// aren't a desk's, or if their rows aren't those of a valid state in either schema.
     pub fn migrate_from(
         rt: &HostRuntime,
         path: &str,
@@ -165,8 +165,8 @@ impl SqliteStore<FileStore<FileFrom<Unknown>>> {
 /// # Errors
 ///
 /// The connection, if there was one, and `OutOfMemory` if memory runs out. `Store` if there is no file, if
-/// the files can't be opened, or if SQLite fails for another cause. `NotADesk` if there is no table, if there
-/// are other tables than the schema's, or if the rows aren't those of a valid state in either schema.
+/// the files can't be opened, or if SQLite fails for another cause. `NotADesk` if there is no table, if the
+/// tables aren't a desk's, or if the rows aren't those of a valid state in either schema.
 pub fn look_at<S: Start>(
     rt: &HostRuntime,
     path: &str,

@@ -69,8 +69,7 @@ impl<S: Alter> SqliteStore<S> {
     ///
     /// The connection, with the rows that it had, and the first of these that applies: `OutOfMemory` if
     /// memory runs out, `Store` if SQLite fails for another cause, `OldSchema` if there are rows of schema 1,
-    /// and `NotADesk` if there are other tables than the schema's, or if their rows aren't those of a valid
-    /// state.
+    /// and `NotADesk` if the tables aren't a desk's, or if their rows aren't those of a valid state.
     // Long: success, a refusal and a crash have a clause each.
     pub fn adopt(
         alloc: Global,
@@ -111,8 +110,8 @@ impl<S: Alter> SqliteStore<S> {
     /// # Errors
     ///
     /// The connection, with the rows that it had, and the first of these that applies: `OutOfMemory` if
-    /// memory runs out, `Store` if SQLite fails for another cause, and `NotADesk` if there are other tables
-    /// than the schema's, or if their rows aren't those of a valid state in either schema.
+    /// memory runs out, `Store` if SQLite fails for another cause, and `NotADesk` if the tables aren't
+    /// a desk's, or if their rows aren't those of a valid state in either schema.
     // Long: success, a refusal and a crash have a clause each.
     pub fn adopt_old(
         alloc: Global,

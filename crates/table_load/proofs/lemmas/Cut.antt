@@ -10,7 +10,7 @@ use Rattle.sqlite.specs.Held.{Held, state}
 use Rattle.sqlite_value.specs.Order.{Row}
 use Rattle.desk_sql.specs.declared.opening.finding.TablesPresent.{TablesPresent}
 use Rattle.desk_sql.specs.declared.opening.finding.TablesPresent.TheVariants.{Nothing, Packed}
-use Rattle.desk_sql.specs.Schema.{desk_schema}
+use Rattle.desk_sql.specs.Schema.{desk_in, desk_with}
 use Rattle.desk_sql.specs.Rows.{IsDesk, IsMadeTo, Tables, tables_at, tables_of, has_old_rows}
 use Rattle.desk_sql.specs.Effects.{Makes, MayMake, Spares, OnlyReads, Remembers, Holds}
 use Rattle.desk_sql.specs.Changing.{MayComplete, RemakesTables}
@@ -39,12 +39,18 @@ transaction_leaves {S = S} g old begun mid new Changes is made spared last clean
           subst (λ h. Makes g h mid Changes) is (made early) in
           inr (record {
             was_open = done.was_open;
-            desk = subst (λ trees. IsDesk (record { schema = desk_schema; trees = trees })) (sym now)
+            desk = subst (λ trees. IsDesk (record {
+              schema = desk_in (state g old).now.schema;
+              trees = trees;
+            })) (sym now)
                 (subst (λ schema. IsDesk (record { schema = schema; trees = (state g mid).now.trees }))
-                done.desk.schema done.desk);
-            sound = subst (λ trees. IsDatabase (record { schema = desk_schema; trees = trees })) (sym now)
+                (done.desk.schema.is ∙ ap desk_with done.beside) done.desk);
+            sound = subst (λ trees. IsDatabase (record {
+              schema = desk_in (state g old).now.schema;
+              trees = trees;
+            })) (sym now)
                 (subst (λ schema. IsDatabase (record { schema = schema; trees = (state g mid).now.trees }))
-                done.desk.schema done.sound);
+                (done.desk.schema.is ∙ ap desk_with done.beside) done.sound);
             changed = subst (λ trees. Changes (tables_of (state g old).now.trees) (tables_of trees))
                 (sym now) done.changed;
           })
@@ -183,6 +189,7 @@ module _ {S : Type 0} (g : Ghosts S) where
                 };
                 after = record {
                   content = is.content;
+                  listed = _;
                   desk = done.desk;
                   sound = done.sound;
                   tables = subst (λ t. AreTables t w)
@@ -212,6 +219,7 @@ module _ {S : Type 0} (g : Ghosts S) where
             };
             after = record {
               content = nothing_holds.content;
+              listed = _;
               desk = done.desk;
               sound = done.sound;
               tables = subst (λ t. AreTables t nothing) (sym done.same) nothing_holds.tables;
@@ -280,6 +288,7 @@ ordered_leaves g w ps a b c same part new reads content rises may clean db left 
               };
               after = record {
                 content = is.content;
+                listed = _;
                 desk = done.desk;
                 sound = done.sound;
                 tables = ordered_is (state g a).now.trees db w ps same is.tables
@@ -328,6 +337,7 @@ module _ {S : Type 0} (g : Ghosts S) (made : TablesPresent) (w : World) (a b : H
                   rows = content mid;
                 };
                 after = inl (record {
+                  listed = _;
                   desk = done.desk;
                   sound = done.sound;
                   schema = ap has_old_rows same ∙ old early shows.was_open;
@@ -367,6 +377,7 @@ module _ {S : Type 0} (g : Ghosts S) (made : TablesPresent) (w : World) (a b : H
                 };
                 after = inr (record {
                   content = (content mid).content.content;
+                  listed = _;
                   desk = done.desk;
                   sound = done.sound;
                   tables = moved_is (tables_of (state g c).now.trees) (tables_of db) w ps same rows

@@ -50,6 +50,7 @@ begins g old Changes none under = record {
     begun = h.1;
     committed = refl;
     desk = h.2;
+    beside = refl;
     sound = h.3;
     changed = none (tables_of (state g old).now.trees);
   };
@@ -76,6 +77,7 @@ makes_then g old mid new Before Step After joins first last = record {
   begun = last.begun;
   committed = last.committed ∙ first.committed;
   desk = last.desk;
+  beside = last.beside ∙ first.beside;
   sound = last.sound;
   changed = joins (tables_of (state g old).now.trees) (tables_of (state g mid).now.trees)
       (tables_of (state g new).now.trees) first.changed last.changed;
