@@ -9,7 +9,7 @@ from typing import Any
 
 import pytest
 from harness.rows import named
-from tables.causes import OTHER
+from tables.causes import DAMAGED, OTHER
 from tables.files import bytes_of, made_file, rows_of
 from tables.judging import assert_in_schema_2, assert_opened, assert_refused, copied, looked
 from tables.statements import DROPPED, ENROLLED, NO_INDEX, OLD, PLAN
@@ -25,16 +25,17 @@ APART = [
     ("view_before_a_table", [VIEW, *TABLE]),
     ("sequence", ["CREATE TABLE other (a INTEGER PRIMARY KEY AUTOINCREMENT)", "INSERT INTO other VALUES (7)"]),
     ("statistics", ["ANALYZE"]),
+    ("trigger_on_another", [*TABLE, "CREATE TRIGGER noted AFTER INSERT ON other BEGIN SELECT 1; END"]),
 ]
 KEY = "CREATE TABLE other (operator TEXT, id TEXT, FOREIGN KEY (operator, id) REFERENCES"
+TRIGGER = "CREATE TRIGGER noted AFTER INSERT ON operator BEGIN SELECT 1; END"
 # name, and the statements of a file with others that don't stand apart behind all of a desk's
 ENTANGLED = [
     ("refers_to_plan", [*PLAN, f"{KEY} plan)"]),
     ("refers_in_capitals", [*PLAN, f"{KEY} PLAN (operator, id))"]),
     ("refers_from_the_second", [*PLAN, *TABLE, f"{KEY} plan)".replace("other", "more")]),
     ("index_on_a_desks", [*PLAN, *TABLE, "CREATE INDEX plan_priority ON plan (priority)"]),
-    ("trigger_on_a_desks", [*PLAN, "CREATE TRIGGER noted AFTER INSERT ON operator BEGIN SELECT 1; END"]),
-    ("trigger_on_another", [*PLAN, *TABLE, "CREATE TRIGGER noted AFTER INSERT ON other BEGIN SELECT 1; END"]),
+    ("trigger_on_a_desks", [TRIGGER]),
     ("before_the_last_index", [*PLAN, *NO_INDEX, *TABLE]),
     ("beside_operators_alone", [*ENROLLED, *DROPPED[:7], *TABLE]),
     ("beside_schema_1_alone", [*OLD, *DROPPED[:3], *TABLE]),
@@ -67,6 +68,11 @@ def test_others_apart(statements: list[str], room: pathlib.Path) -> None:
 def test_others_entangled(statements: list[str], room: pathlib.Path) -> None:
     """The file is refused, and left byte for byte."""
     assert_refused(made_file(str(room / "desk.db"), statements), "not_a_desk", OTHER)
+
+
+def test_trigger_beside_rows(room: pathlib.Path) -> None:
+    """SQLite as the program has it refuses rows whose foreign key leads to a table with a trigger."""
+    assert_refused(made_file(str(room / "desk.db"), [*PLAN, TRIGGER]), "store", DAMAGED)
 
 
 @pytest.mark.quick

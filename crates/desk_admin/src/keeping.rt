@@ -300,7 +300,12 @@ pub fn copy_file<F: Start, N: Start, P: Folder, W: Write + Drop, E: Write + Drop
 {
     match copy_database(host, folder, words, scratch, starts, &mut writers.errors) {
         Ok(copies) => {
-            report_others(host.alloc(), &words.database, &copies.0, &mut writers.errors);
+            report_others(
+                host.alloc(),
+                &words.database,
+                &copies.0,
+                &mut writers.errors,
+            );
             let exit = print_holdings(
                 host.alloc(),
                 &copies.1.1,

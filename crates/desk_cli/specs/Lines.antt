@@ -3,7 +3,7 @@ use Rattle.std.specs.Prelude.{ℕ, pos, List, All, ⊤, ◌≤◌, Option, Some,
 use Rattle.std.specs.Int.{IsInRange}
 use Rattle.desk_rules.specs.Limits.{max_priority}
 use Rattle.io_ends.specs.Writing.{IsMoment}
-use Rattle.desk_cli.specs.declared.line.{DeskCommand.DeskCommand, CoverArgs.CoverArgs, Database.Database, Database.TheVariants.InMemory, Database.TheVariants.File, DeskArgs.DeskArgs, EnrolArgs.EnrolArgs, Enrolment.Enrolment, Line.Line, Line.TheVariants.Cover, Line.TheVariants.Play, Line.TheVariants.Serve, Line.TheVariants.Enrol, Line.TheVariants.Replay, PlayArgs.PlayArgs, ReplayArgs.ReplayArgs as ReplayWords, ServeArgs.ServeArgs}
+use Rattle.desk_cli.specs.declared.line.{DeskCommand.DeskCommand, CoverArgs.CoverArgs, Database.Database, Database.TheVariants.InMemory, Database.TheVariants.File, DeskArgs.DeskArgs, EnrolArgs.EnrolArgs, Enrolment.Enrolment, Line.Line, Line.TheVariants.Token, Line.TheVariants.Cover, Line.TheVariants.Play, Line.TheVariants.Serve, Line.TheVariants.Enrol, Line.TheVariants.Check, Line.TheVariants.Copy, Line.TheVariants.Migrate, Line.TheVariants.Replay, PlayArgs.PlayArgs, ReplayArgs.ReplayArgs as ReplayWords, ServeArgs.ServeArgs}
 use Rattle.desk_cli.specs.declared.line.DeskCommand.TheVariants as action
 
 abbrev pub min_port : ℕ
@@ -95,10 +95,22 @@ desk_of (action.Play play) = play.now.desk
 desk_of (action.Serve serve) = serve.now.desk
 desk_of (action.Enrol enrol) = enrol.now.desk
 
--- ==== When the arguments of two desks are the same
+-- ==== When the arguments of two desks, and two command lines, are the same
 pub record SameDesk (a b : DeskArgs) : Type 0 where
   pub database : file_of b.database ≡ file_of a.database
   pub terms : b.terms ≡ a.terms
   pub enrolments : b.enrolments.items ≡ a.enrolments.items
   pub operators : option_map string_bytes b.operators ≡ option_map string_bytes a.operators
   pub folder : option_map string_bytes b.folder ≡ option_map string_bytes a.folder
+
+abbrev pub SameLine : Line → Line → Type 0
+SameLine (Token a) (Token b) = string_bytes b ≡ string_bytes a
+SameLine (Cover a) (Cover b) = b ≡ a
+SameLine (Play a) (Play b) = SameDesk a.desk b.desk × (b.moment ≡ a.moment)
+SameLine (Serve a) (Serve b) = SameDesk a.desk b.desk × (b.port ≡ a.port) × (b.connections ≡ a.connections)
+SameLine (Enrol a) (Enrol b) = SameDesk a.desk b.desk × (b.enrolment ≡ a.enrolment)
+SameLine (Check a) (Check b) = file_of b ≡ file_of a
+SameLine (Copy a) (Copy b) = (file_of b.database ≡ file_of a.database) × (string_bytes b.to ≡ string_bytes a.to)
+SameLine (Migrate a) (Migrate b) = file_of b ≡ file_of a
+SameLine (Replay a) (Replay b) = (file_of b.database ≡ file_of a.database) × (b.until ≡ a.until)
+SameLine _ _ = ⊥

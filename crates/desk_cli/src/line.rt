@@ -7,7 +7,7 @@ ghost use mir.Val.{SFits};
 ghost use Rattle.clap.specs.{Matches.found_of, Simple.subcommand_of, Simple.subcommand_rows_of, Walk.first_of, Walk.rows_of};
 ghost use Rattle.desk_rules.specs.Limits.{max_priority};
 ghost use Rattle.io_ends.specs.Writing.{IsMoment};
-ghost use Rattle.desk_cli.specs.Lines.{SameDesk, AreEnrolments, IsCover, IsEnrol, IsMomentIfGiven, IsLine, IsPlay, IsReplay, IsServe, desk_of, file_of, max_connections, max_port, min_connections, min_limit, min_port, named_file};
+ghost use Rattle.desk_cli.specs.Lines.{SameDesk, SameLine, AreEnrolments, IsCover, IsEnrol, IsMomentIfGiven, IsLine, IsPlay, IsReplay, IsServe, desk_of, file_of, max_connections, max_port, min_connections, min_limit, min_port, named_file};
 ghost use Rattle.desk_cli.specs.Grammar.{ArePermittedBy, AreEnrolmentsGiven, IsCellLimitGiven, IsSpanLimitGiven, AreTermsOf, AreWordsRefused, HasGiven, IsBareDeskGiven, IsCopyGiven, IsCoverGiven, IsDeskGiven, IsEnrolGiven, IsGiven, IsLineOf, IsLimitGiven, IsNumberGiven, IsNumberOrNone, IsPlayGiven, IsReplayGiven, IsIntegerGiven, IsServeGiven, IsTextGiven, IsRefusedByClap, RefusesOnlyWithout, enrolment_given, enrolment_in, file_given, name_of, program};
 ghost use Rattle.desk_cli.specs.Grammar as spec;
 ghost use Rattle.desk_cli.specs.declared.line.CoverArgs.{CoverArgs};
@@ -51,6 +51,45 @@ pub enum Line {
     Migrate(Database),
     /// `replay`: replays the journal from the standard input, and compares each answer with the recorded one.
     Replay(ReplayArgs),
+}
+
+impl Line {
+    /// A copy of this command line.
+    ///
+    /// # Errors
+    ///
+    /// `AllocError` if memory runs out.
+    pub fn copy(&self) -> Result<Line, AllocError>
+        ensures { IfOk result (SameLine self.now) }
+    {
+        Ok(match self {
+            Line::Token(text) => Line::Token(text.clone()?),
+            Line::Cover(cover) => Line::Cover(*cover),
+            Line::Play(play) => Line::Play(PlayArgs {
+                desk: play.desk.copy()?,
+                moment: play.moment,
+            }),
+            Line::Serve(serve) => Line::Serve(ServeArgs {
+                desk: serve.desk.copy()?,
+                port: serve.port,
+                connections: serve.connections,
+            }),
+            Line::Enrol(enrol) => Line::Enrol(EnrolArgs {
+                desk: enrol.desk.copy()?,
+                enrolment: enrol.enrolment,
+            }),
+            Line::Check(database) => Line::Check(database.clone()?),
+            Line::Copy(copy) => Line::Copy(CopyArgs {
+                database: copy.database.clone()?,
+                to: copy.to.clone()?,
+            }),
+            Line::Migrate(database) => Line::Migrate(database.clone()?),
+            Line::Replay(replay) => Line::Replay(ReplayArgs {
+                database: replay.database.clone()?,
+                until: replay.until,
+            }),
+        })
+    }
 }
 
 /// A command that works at an open desk, with its arguments.

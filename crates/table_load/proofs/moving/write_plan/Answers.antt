@@ -104,3 +104,24 @@ returns-in_err-insert_spans-clause-added g c = record {
   fault = search rules;
   remembered = search rules;
 }
+
+pub returns-clause-added : goal.returns-clause-added
+returns-clause-added g c = record {
+  done = λ clean.
+      let first = c.in_ok-insert_volumes.ensures.changed.done
+      (omega (arith, c.insert_spans.ensures.changed.remembered.doubt, clean)) in
+      let last = c.in_ok-insert_spans.ensures.changed.done clean in
+      record {
+        was_open = first.was_open;
+        is_open = last.is_open;
+        begun = last.begun;
+        committed = last.committed ∙ first.committed;
+        desk = last.desk;
+        beside = last.beside ∙ first.beside;
+        sound = last.sound;
+        changed = search (rules, first.changed, last.changed);
+      };
+  undone = search rules;
+  fault = search rules;
+  remembered = search rules;
+}
