@@ -12,11 +12,12 @@ from harness.rows import named
 from tables.causes import BOTH, OLD_LIMITS, OLD_ROWS, OLD_SPANS, OTHER
 from tables.files import old_file
 from tables.judging import assert_moved, assert_not_moved, moved
-from tables.statements import DROPPED, ID, SCHEMA, old_row, old_wide
+from tables.statements import DROPPED, ID, SCHEMA, TABLES, old_row, old_wide
 
 # name, the statements after schema1.sql, and how many plans are moved, or what is told if it is refused
 MOVES: list[tuple[str, list[str], int | str]] = [
     ("moved", [], 3),
+    ("one_plan", [f"DELETE FROM {name} WHERE operator <> 'alfa' OR id <> '{ID}'" for name in TABLES[3:0:-1]], 1),
     ("moved_tables_made", SCHEMA[5:], 3),
     ("moved_no_index", DROPPED[3:4], 3),
     ("moved_vacuumed", ["VACUUM"], 3),

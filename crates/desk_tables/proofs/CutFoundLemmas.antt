@@ -51,7 +51,7 @@ made_at n =
     else if n == 30 then Packed
     else All
 
-made_at_schema : Schema → TablesPresent
+abbrev made_at_schema : Schema → TablesPresent
 made_at_schema schema = made_at (number_of schema)
 
 made_again : (made : TablesPresent) (schema : Schema) → IsSchemaOf made schema → made_at_schema schema ≡ made
