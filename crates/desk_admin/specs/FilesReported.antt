@@ -1,5 +1,5 @@
 -- What `check` reports of a file, what `copy` copies, and the errors of a file that can't be opened.
-use Rattle.std.specs.Prelude.{ℕ, List, Option, ◌≡◌, None, Result, Ok, Err, ◌⊎◌, codes, Some, [], length}
+use Rattle.std.specs.Prelude.{ℕ, Bool, true, false, List, Option, ◌≡◌, None, Result, Ok, Err, ◌⊎◌, codes, Some, [], length}
 use Rattle.std.specs.declared.io.Write as write
 use Rattle.std.specs.Option.{IsSomeAnd}
 use Rattle.sqlite_disk.specs.declared.Disk as disk
