@@ -4,16 +4,11 @@ use Rattle.std.specs.declared.{io.ErrorKind.ErrorKind, fs.attrs.Metadata.Metadat
 use Rattle.std.specs.declared.io.ErrorKind.TheVariants as kind
 use Rattle.std.specs.{Char.is_ascii_digit, Fmt.format_spec, Fmt.styled_decimal, List.list_all, Str.Parse.digits_value, Option.is_none, Fs.IsFile, Fs.file_type, Fs.metadata_len, Result.IsErrAnd, Str.Lossy.utf8_lossy}
 use Rattle.desk_wire.specs.Streams.{Course, course}
-use Rattle.desk_cli.specs.Malformed.{parse_enrolment_line, parse_enrolment_lines, lines_of}
-use Rattle.desk_cli.specs.declared.line.Enrolment.{Enrolment}
+use Rattle.desk_cli.specs.{Malformed.parse_enrolment_line, Malformed.parse_enrolment_lines, Malformed.lines_of, declared.line.Enrolment.Enrolment}
 use Rattle.desk_program.specs.Serving.{Grows}
 use Rattle.host_files.specs.Naming.{IsWrittenIfRoom, line_of}
-use Rattle.desk_host.specs.declared.{folders.JournalError.JournalError, folders.JournalFile.JournalFile, folders.Greatest.Greatest, operators.FileReadError.FileReadError, operators.Stamp.Stamp, operators.FileReadError.TheVariants.Cause, operators.FileReadError.TheVariants.Memory, operators.LineCounts.LineCounts}
-use Rattle.desk_host.specs.declared.folders.JournalError.TheVariants as unkept
-use Rattle.desk_host.specs.declared.operators.FileReadError.TheVariants as unread
-use Rattle.desk_recording.specs.Tail.{HasNoTail}
-use Rattle.desk_recording.specs.declared.tail.TailFault.{TailFault}
-use Rattle.desk_recording.specs.declared.tail.TailFault.TheVariants as tail
+use Rattle.desk_host.specs.declared.{folders.JournalError.JournalError, folders.JournalFile.JournalFile, folders.Greatest.Greatest, operators.FileReadError.FileReadError, operators.Stamp.Stamp, operators.FileReadError.TheVariants.Cause, operators.FileReadError.TheVariants.Memory, operators.LineCounts.LineCounts, folders.JournalError.TheVariants as unkept, operators.FileReadError.TheVariants as unread}
+use Rattle.desk_recording.specs.{Tail.HasNoTail, declared.tail.TailFault.TailFault, declared.tail.TailFault.TheVariants as tail}
 
 -- the text about a file that can't be read; None if memory ran out
 abbrev pub unread_text : FileReadError → Option (List ℕ)

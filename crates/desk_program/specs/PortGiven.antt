@@ -4,10 +4,8 @@ use Rattle.std.specs.{Result.IsErrAnd, List.slice_get}
 use Rattle.desk_store.specs.{World.World, Changes.IsHonest}
 use Rattle.desk_run.specs.{Verdicts.DeskWorld, Calls.OwnAlike}
 use Rattle.request_parser.specs.Requests.{asked}
-use Rattle.desk_wire.specs.{Streams.Course, Streams.IsTaken, Playing.max_answered, Bytes.Sent, Bytes.text_for, Bytes.world_after, Bytes.server_error_text, Headline.sender, Headline.LookAlike}
-use Rattle.desk_wire.specs.declared.response.ServerError.{ServerError}
-use Rattle.desk_cli.specs.declared.{failure.ErrorCode.ErrorCode, line.PlayArgs.PlayArgs, line.Enrolment.Enrolment, line.ServeArgs.ServeArgs}
-use Rattle.desk_cli.specs.Exits.{IsLineBreakdown}
+use Rattle.desk_wire.specs.{Streams.Course, Streams.IsTaken, Playing.max_answered, Bytes.Sent, Bytes.text_for, Bytes.world_after, Bytes.server_error_text, Headline.sender, Headline.LookAlike, declared.response.ServerError.ServerError}
+use Rattle.desk_cli.specs.{declared.failure.ErrorCode.ErrorCode, declared.line.PlayArgs.PlayArgs, declared.line.Enrolment.Enrolment, declared.line.ServeArgs.ServeArgs, Exits.IsLineBreakdown}
 use Rattle.desk_program.specs.{Enrolling.AreEnrolledSoFar, Enrolling.on_terms, Enrolling.with_operators, Keeping.AreKeptSoFar, Keeping.IsFoundServed, Serving.AreTaken, Serving.Traffic, Serving.Arrival, Serving.Grows, Serving.Parting, Serving.HasBegunServing}
 
 -- the desk gets the command's settings, its operators are enrolled (`begun`), and then connections are served

@@ -1,10 +1,8 @@
 -- The steps of a journal in their order, and the requests that clients send.
 use Rattle.std.specs.Prelude.{◌≡◌, ◌<◌, ◌⊎◌, ⊤, ℕ, Bool, true, List, [], length, Option, IfSome, ℤ, false, ◌∷◌, ◌++◌, None, Some, option_map, Result, Ok, Err}
 use Rattle.std.specs.{Io.KnownBytes.IsAtEnd, Io.KnownBytes.Appends, Option.IsSomeAnd}
-use Rattle.io_ends.specs.Writing.{BreaksOff}
-use Rattle.io_ends.specs.declared.writing.WriteError.{WriteError}
-use Rattle.desk_wire.specs.{Streams.IsTaken, Streams.IsCut, Streams.Course, Streams.course, Bytes.server_error_text}
-use Rattle.desk_wire.specs.declared.response.ServerError.TheVariants.{Store}
+use Rattle.io_ends.specs.{Writing.BreaksOff, declared.writing.WriteError.WriteError}
+use Rattle.desk_wire.specs.{Streams.IsTaken, Streams.IsCut, Streams.Course, Streams.course, Bytes.server_error_text, declared.response.ServerError.TheVariants.Store}
 use Rattle.desk_cli.specs.declared.line.Enrolment.{Enrolment}
 use Rattle.desk_program.specs.{Enrolling.Noted, Enrolling.Recorded, Serving.Arrival, Serving.Closes, Serving.Parting, Serving.TakesArrival, Serving.Traffic, Serving.arrived, Serving.parted, Serving.unreported}
 use Rattle.desk_recording.specs.declared.{receiving.ReceiveFault.ReceiveFault, receiving.ReceiveFault.TheVariants.CutShort, receiving.ReceiveFault.TheVariants.Unread, receiving.ReceiveFault.TheVariants.OutOfMemory, record.Exchange.Exchange}

@@ -1,19 +1,14 @@
 -- Recovering: what a journal left pending is done at its desk.
 use Rattle.std.specs.Prelude.{◌≡◌, ◌<◌, ◌⊎◌, ⊤, ℕ, ℤ, pos, Bool, true, not, ◌&&◌, nat_lt, List, [], ◌∷◌, ◌++◌, filter, Option, None, Some, option_map, Result, Ok, Err, IsOkAnd}
 use Rattle.std.specs.{List.list_any, Str.bytes_eq}
-use Rattle.desk_rules.specs.Limits.{max_priority}
-use Rattle.desk_rules.specs.declared.terms.Terms.{Terms}
+use Rattle.desk_rules.specs.{Limits.max_priority, declared.terms.Terms.Terms}
 use Rattle.request_parser.specs.Requests.{asked}
 use Rattle.desk_run.specs.Verdicts.{DeskWorld}
 use Rattle.desk_wire.specs.{Bytes.text_for, Bytes.world_after, Streams.Course, Streams.course}
-use Rattle.desk_cli.specs.declared.{failure.ErrorCode.ErrorCode, line.Enrolment.Enrolment}
-use Rattle.desk_cli.specs.declared.failure.ErrorCode.TheVariants as failure
-use Rattle.desk_cli.specs.Exits.{IsLineBreakdown}
-use Rattle.desk_program.specs.{Enrolling.AreEnrolledSoFar, Enrolling.on_terms, Enrolling.with_operators, Serving.Parting, Serving.parted}
-use Rattle.desk_program.specs.declared.port.ExchangeEnd.{ExchangeEnd}
+use Rattle.desk_cli.specs.{declared.failure.ErrorCode.ErrorCode, declared.line.Enrolment.Enrolment, declared.failure.ErrorCode.TheVariants as failure, Exits.IsLineBreakdown}
+use Rattle.desk_program.specs.{Enrolling.AreEnrolledSoFar, Enrolling.on_terms, Enrolling.with_operators, Serving.Parting, Serving.parted, declared.port.ExchangeEnd.ExchangeEnd}
 use Rattle.desk_replay.specs.Replaying.{last_moment}
-use Rattle.desk_recording.specs.declared.recovering.{RecoveryError.RecoveryError, RecoveryError.TheVariants.OutOfMemory, RecoveryError.TheVariants.Store, RecoveryError.TheVariants.Clock, RecoveryError.TheVariants.JournalError}
-use Rattle.desk_recording.specs.{Recording.Answered, Recording.Asked, Recording.Lost, Recording.Step, Tail.UnansweredParts}
+use Rattle.desk_recording.specs.{declared.recovering.RecoveryError.RecoveryError, declared.recovering.RecoveryError.TheVariants.OutOfMemory, declared.recovering.RecoveryError.TheVariants.Store, declared.recovering.RecoveryError.TheVariants.Clock, declared.recovering.RecoveryError.TheVariants.JournalError, Recording.Answered, Recording.Asked, Recording.Lost, Recording.Step, Tail.UnansweredParts}
 
 -- an operator of this name is on the roll, the list of enrolled operators
 abbrev pub is_on_roll : List Enrolment → List ℕ → Bool

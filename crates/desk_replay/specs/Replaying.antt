@@ -1,17 +1,12 @@
 -- A journal replayed at a desk's world, entry by entry, and what a desk writes to its journal.
 use Rattle.std.specs.Prelude.{◌≡◌, ◌⊎◌, ⊤, ℕ, ℤ, pos, ◌+◌, ◌==◌, min, length, is_none, nat_le, nat_lt, ◌^◌, ◌-◌, List, [], ◌∷◌, ◌++◌, Bool, true, false, not, ◌&&◌, ◌||◌, if◌then◌else◌, Option, Some, None, Result, Ok, Err, codes, ◌≤◌, map}
 use Rattle.std.specs.Str.{bytes_eq}
-use Rattle.desk_rules.specs.{Limits.max_priority, Limits.max_spans, Limits.max_total_cells, Limits.is_operator_name, Limits.permitted_in, Outcome.no_terms}
-use Rattle.desk_rules.specs.declared.{terms.Terms.Terms, permission.PermitFault.PermitFault}
-use Rattle.desk_store.specs.{Changes.IsHonest, World.World}
-use Rattle.desk_store.specs.declared.store.PlanStore.{Ghosts}
+use Rattle.desk_rules.specs.{Limits.max_priority, Limits.max_spans, Limits.max_total_cells, Limits.is_operator_name, Limits.permitted_in, Outcome.no_terms, declared.terms.Terms.Terms, declared.permission.PermitFault.PermitFault}
+use Rattle.desk_store.specs.{Changes.IsHonest, World.World, declared.store.PlanStore.Ghosts}
 use Rattle.desk_run.specs.Verdicts.{DeskWorld, IsSettled, Parts, enrolled, world_of}
 use Rattle.request_parser.specs.Requests.{asked}
-use Rattle.desk_record.specs.Record.{EntryParts}
-use Rattle.desk_record.specs.declared.kind.Kind.{Kind}
-use Rattle.desk_record.specs.declared.kind.Kind.TheVariants as kind
-use Rattle.desk_wire.specs.{Bytes.makes_change_for, Bytes.text_for, Bytes.world_after, Bytes.server_error_text, Bytes.Sent, Streams.Course}
-use Rattle.desk_wire.specs.declared.response.ServerError.TheVariants as error
+use Rattle.desk_record.specs.{Record.EntryParts, declared.kind.Kind.Kind, declared.kind.Kind.TheVariants as kind}
+use Rattle.desk_wire.specs.{Bytes.makes_change_for, Bytes.text_for, Bytes.world_after, Bytes.server_error_text, Bytes.Sent, Streams.Course, declared.response.ServerError.TheVariants as error}
 use Rattle.desk_replay.specs.declared.{fault.ReplayFault.ReplayFault, fault.ReplayFault.TheVariants.OutOfMemory, fault.ReplayFault.TheVariants.Store, fault.ReplayFault.TheVariants.NoRecord, fault.ReplayFault.TheVariants.NotNext, fault.ReplayFault.TheVariants.Differs, progress.UnansweredRequest.UnansweredRequest, progress.Progress.Progress}
 
 -- ==== A journal replayed at a desk's world, entry by entry (docs/journal-format.md)

@@ -2,29 +2,20 @@
 use Rattle.std.specs.Prelude.{◌≡◌, ◌+◌, ◌^◌, [], ◌==◌, ℕ, Bool, true, false, List, Option, None, Some, Result, Ok, Err, codes, if◌then◌else◌, nat_lt, ◌⊎◌, ⊤, IsSome, ◌≤◌, IfErr, IfOk}
 use Rattle.std.specs.declared.io.Error.{Error}
 use Rattle.std.specs.{Global.Vec, Option.IsSomeAnd}
-use Rattle.sqlite_trees.specs.declared.store.Store.{Ghosts}
-use Rattle.sqlite_trees.specs.View.{doubt}
+use Rattle.sqlite_trees.specs.{declared.store.Store.Ghosts, View.doubt}
 use Rattle.sqlite_disk.specs.declared.Disk as disk
 use Rattle.sqlite.specs.Held.{state}
-use Rattle.desk_rules.specs.Outcome.{no_terms}
-use Rattle.desk_rules.specs.declared.terms.Terms.{Terms}
+use Rattle.desk_rules.specs.{Outcome.no_terms, declared.terms.Terms.Terms}
 use Rattle.desk_store.specs.World.{LeavesOnly, World}
 use Rattle.desk_run.specs.Verdicts.{Parts}
 use Rattle.desk_wire.specs.Streams.{course, Passage}
 use Rattle.desk_replay.specs.Running.{IsReplayed, IsUnplayed}
 use Rattle.table_load.specs.Files.{MayLeave}
 use Rattle.desk_tables.specs.Store.{Shown}
-use Rattle.desk_cli.specs.declared.{failure.ErrorCode.ErrorCode, line.Line.Line, line.Enrolment.Enrolment, line.PlayArgs.PlayArgs}
-use Rattle.desk_cli.specs.declared.failure.ErrorCode.TheVariants as failure
-use Rattle.desk_cli.specs.declared.line.Line.TheVariants as line
-use Rattle.desk_cli.specs.Exits.{Ending}
-use Rattle.desk_host.specs.declared.folders.{JournalFile.JournalFile, JournalError.JournalError}
-use Rattle.desk_host.specs.declared.folders.JournalError.TheVariants as unkept
-use Rattle.desk_host.specs.Operators.{journal_error_text}
-use Rattle.uss_desk.specs.declared.{recording.FileError.FileError, recording.LocalJournal.LocalJournal, recording.PendingRecovery.PendingRecovery, rolls.NotedOperators.NotedOperators}
-use Rattle.uss_desk.specs.OpenedFor.{load_world, IsSound}
-use Rattle.desk_recording.specs.declared.tail.{Tail.Tail, TailEnd.TailEnd, TailEnd.TheVariants.End, TailEnd.TheVariants.Short, TailEnd.TheVariants.Damaged}
-use Rattle.desk_recording.specs.{Recovering.Recovers, Recovering.Undone, Recovering.missing_enrolments, Recovering.undone, Tail.unanswered_in, Inputs.InputOutside, Inputs.IsPlayRecorded, Inputs.IsRecordedKept, Inputs.IsUnrecorded}
+use Rattle.desk_cli.specs.{declared.failure.ErrorCode.ErrorCode, declared.line.Line.Line, declared.line.Enrolment.Enrolment, declared.line.PlayArgs.PlayArgs, declared.failure.ErrorCode.TheVariants as failure, declared.line.Line.TheVariants as line, Exits.Ending}
+use Rattle.desk_host.specs.{declared.folders.JournalFile.JournalFile, declared.folders.JournalError.JournalError, declared.folders.JournalError.TheVariants as unkept, Operators.journal_error_text}
+use Rattle.uss_desk.specs.{declared.recording.FileError.FileError, declared.recording.LocalJournal.LocalJournal, declared.recording.PendingRecovery.PendingRecovery, declared.rolls.NotedOperators.NotedOperators, OpenedFor.load_world, OpenedFor.IsSound}
+use Rattle.desk_recording.specs.{declared.tail.Tail.Tail, declared.tail.TailEnd.TailEnd, declared.tail.TailEnd.TheVariants.End, declared.tail.TailEnd.TheVariants.Short, declared.tail.TailEnd.TheVariants.Damaged, Recovering.Recovers, Recovering.Undone, Recovering.missing_enrolments, Recovering.undone, Tail.unanswered_in, Inputs.InputOutside, Inputs.IsPlayRecorded, Inputs.IsRecordedKept, Inputs.IsUnrecorded}
 
 -- the number of a folder's last journal and its size in bytes, each 0 if there is none
 abbrev pub extent_of : Option JournalFile → ℕ × ℕ
