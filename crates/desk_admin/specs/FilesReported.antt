@@ -2,7 +2,8 @@
 use Rattle.std.specs.Prelude.{ℕ, Bool, true, false, List, Option, ◌≡◌, None, Result, Ok, Err, ◌⊎◌, codes, Some, [], length}
 use Rattle.std.specs.declared.io.Write as write
 use Rattle.std.specs.Option.{IsSomeAnd}
-use Rattle.sqlite_disk.specs.declared.{Disk as disk, Files.Files}
+use Rattle.sqlite_disk.specs.declared.Disk as disk
+use Rattle.sqlite_disk.specs.declared.Files.{Files}
 use Rattle.sqlite_wal.specs.{Reads.AreClean, Recovery.Image}
 use Rattle.sqlite_store.specs.declared.store.FileStore.{FileStore}
 use Rattle.sqlite.specs.{Closing.IsCopied as IsClosedInto, Files.over_files, Files.file_state, Held.Held}
@@ -10,9 +11,13 @@ use Rattle.desk_store.specs.World.{World}
 use Rattle.desk_wire.specs.Streams.{Course, course}
 use Rattle.db_file.specs.Orders.{order_text}
 use Rattle.row_codec.specs.SpanBounds.{HaveSpanRows, IsMostCells, IsMostSpans}
-use Rattle.table_load.specs.{declared.fault.OpenFault.OpenFault, declared.naming.InvalidPart.InvalidPart, declared.looking.DbStats.DbStats, declared.fault.OpenFault.TheVariants as opening, declared.naming.InvalidPart.TheVariants as part, Moving.AreStatsOf, Moving.has_others, Moving.live_count, Files.IsSettledAt}
-use Rattle.desk_tables.specs.{declared.opening.files.FilesFault.FilesFault, declared.opening.files.CopyFault.CopyFault, declared.closing.CheckpointError.CheckpointError, Store.IsLeftUnclosed, Copying.AreNotCopied, Copying.AreNotRead, Copying.IsMadeIn, Copying.LooksIn, declared.opening.files.CopyFault.TheVariants as copy}
-use Rattle.desk_cli.specs.{declared.failure.ExitReport.ExitReport, declared.failure.ErrorCode.ErrorCode, declared.line.Database.Database, Exits.Ending, Exits.FailsWith, Lines.file_of, declared.failure.ErrorCode.TheVariants as failure}
+use Rattle.table_load.specs.{declared.fault.OpenFault.OpenFault, declared.naming.InvalidPart.InvalidPart, declared.looking.DbStats.DbStats, Moving.AreStatsOf, Moving.has_others, Moving.live_count, Files.IsSettledAt}
+use Rattle.table_load.specs.declared.fault.OpenFault.TheVariants as opening
+use Rattle.table_load.specs.declared.naming.InvalidPart.TheVariants as part
+use Rattle.desk_tables.specs.{declared.opening.files.FilesFault.FilesFault, declared.opening.files.CopyFault.CopyFault, declared.closing.CheckpointError.CheckpointError, Store.IsLeftUnclosed, Copying.AreNotCopied, Copying.AreNotRead, Copying.IsMadeIn, Copying.LooksIn}
+use Rattle.desk_tables.specs.declared.opening.files.CopyFault.TheVariants as copy
+use Rattle.desk_cli.specs.{declared.failure.ExitReport.ExitReport, declared.failure.ErrorCode.ErrorCode, declared.line.Database.Database, Exits.Ending, Exits.FailsWith, Lines.file_of}
+use Rattle.desk_cli.specs.declared.failure.ErrorCode.TheVariants as failure
 use Rattle.desk_program.specs.{Keeping.bytes_written, Keeping.ended, Enrolling.IsTextPrinted, Enrolling.checked_line, Enrolling.copied_line, declared.looking.CheckedFile.CheckedFile}
 use Rattle.host_files.specs.Naming.{Steps, Follows, HasFailedStep, IsNamed, IsUnnamed, Synced, free_steps, named_steps, IsWrittenIfRoom, line_of, Reports}
 use Rattle.desk_admin.specs.declared.{keeping.Writers.Writers, keeping.CopyError.CopyError, unopened.OpenError.OpenError}

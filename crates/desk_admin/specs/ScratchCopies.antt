@@ -10,11 +10,14 @@ use Rattle.desk_wire.specs.Streams.{Course, course}
 use Rattle.db_file.specs.Orders.{order_text}
 use Rattle.table_load.specs.{Moving.AreStatsOf, Files.IsSettledAt, declared.looking.DbStats.DbStats}
 use Rattle.desk_tables.specs.{Copying.IsMadeIn, Copying.LooksIn, Store.Shown}
-use Rattle.desk_cli.specs.{declared.failure.ErrorCode.ErrorCode, declared.line.CopyArgs.CopyArgs as CopyWords, declared.line.Database.Database, declared.failure.ErrorCode.TheVariants as failure, Exits.Ending, Exits.FailsWith, Exits.IsLineBreakdown, Lines.file_of}
+use Rattle.desk_cli.specs.{declared.failure.ErrorCode.ErrorCode, declared.line.CopyArgs.CopyArgs as CopyWords, declared.line.Database.Database, Exits.Ending, Exits.FailsWith, Exits.IsLineBreakdown, Lines.file_of}
+use Rattle.desk_cli.specs.declared.failure.ErrorCode.TheVariants as failure
 use Rattle.desk_program.specs.{Enrolling.IsTextPrinted, Enrolling.checked_line, declared.looking.CheckedFile.CheckedFile}
 use Rattle.host_files.specs.{declared.files.Found.Found, Naming.Follows, Naming.LeavesOthers, Naming.Step, Naming.Steps, Naming.IsWrittenIfRoom, Naming.line_of, Naming.Reports, Naming.Failed, Naming.Ordered}
-use Rattle.desk_host.specs.{declared.ways.ReadMode.ReadMode, declared.ways.ReadMode.TheVariants as way, FoundLogs.AreRemoved, FoundLogs.IsNotCopied, FoundLogs.make_steps, FoundLogs.scratch_of, FoundLogs.is_mended, FoundLogs.untested_pages}
-use Rattle.desk_admin.specs.{declared.unopened.OpenError.OpenError, declared.scratch_copies.Rows.Rows, declared.scratch_copies.Rows.TheVariants as rows, FilesReported.CopyOutcome, FilesReported.FailsReporting, FilesReported.FailsToRead, FilesReported.IsCopied, FilesReported.IsNamedIf, FilesReported.IsReadAs, FilesReported.AdminOutside, FilesReported.IsInMemory}
+use Rattle.desk_host.specs.{declared.ways.ReadMode.ReadMode, FoundLogs.AreRemoved, FoundLogs.IsNotCopied, FoundLogs.make_steps, FoundLogs.scratch_of, FoundLogs.is_mended, FoundLogs.untested_pages}
+use Rattle.desk_host.specs.declared.ways.ReadMode.TheVariants as way
+use Rattle.desk_admin.specs.{declared.unopened.OpenError.OpenError, declared.scratch_copies.Rows.Rows, FilesReported.CopyOutcome, FilesReported.FailsReporting, FilesReported.FailsToRead, FilesReported.IsCopied, FilesReported.IsNamedIf, FilesReported.IsReadAs, FilesReported.AdminOutside, FilesReported.IsInMemory}
+use Rattle.desk_admin.specs.declared.scratch_copies.Rows.TheVariants as rows
 
 -- the size in bytes of what was found at a path; 0 if nothing can be reached
 abbrev pub found_size : Result Found ErrorKind → ℕ

@@ -1,13 +1,9 @@
 -- Changes of rows: what each puts, what it does, and what it has to fit.
 use Rattle.std.specs.Prelude.{◌≡◌, ℕ, Bool, not, List, [], ◌∷◌, ◌++◌, filter, IsPermutation, ◌<◌, ◌+◌, ◌^◌, true, false, length, ⊤, Option, pos, map}
 use Rattle.std.specs.List.{list_any, AllByRecursion}
-use Rattle.sqlite.specs.declared.types.{Value.TheVariants.Blob, Value.TheVariants.Null, Value.TheVariants.Int, Value.TheVariants.Real, Value.TheVariants.Text, Value.Value}
-use Rattle.sqlite.specs.{Order.Row, Tree.Trees, Tree.IsAscending, Effect.Database, Listing.understood}
-use Rattle.desk_sql.specs.Rows.{Tables, VolumeColumns, SpanColumns, is_of, is_not_of, left_without, volume_row, cover_row, span_row, IsDesk, tables_of, is_row_by, operator_row, plan_row, AddsOperator, AddsPlan, AddsVolume, AddsSpan, SetsOperators, SetsPlans, RemovesPlan, RemovesSpans, RemovesOldVolumes, RemovesOldSpans}
-use Rattle.desk_sql.specs.Changing.{HasKey, HasRowids, IsShort, LacksKey, has_same_key, AreLow, FitsOperator, FitsPlan, FitsVolume, FitsSpan, IsSureChange}
-use Rattle.desk_sql.specs.{Statements.MayCount, Statements.MayWrite, Statements.Changes}
-use Rattle.desk_changes.specs.declared.writing.{VolumeRecord.VolumeRecord, SpanRecord.SpanRecord, PlanRecord.PlanRecord}
-use Rattle.desk_changes.specs.declared.change.{RowChange.RowChange, RowChange.TheVariants.AddOperator, RowChange.TheVariants.AddPlan, RowChange.TheVariants.AddVolume, RowChange.TheVariants.AddSpan, RowChange.TheVariants.SetCeiling, RowChange.TheVariants.SetClosed, RowChange.TheVariants.RemovePlan, RowChange.TheVariants.RemoveSpans, RowChange.TheVariants.EmptyOldVolumes, RowChange.TheVariants.EmptyOldSpans}
+use Rattle.sqlite.specs.{declared.types.Value.TheVariants.Blob, declared.types.Value.TheVariants.Null, declared.types.Value.TheVariants.Int, declared.types.Value.TheVariants.Real, declared.types.Value.TheVariants.Text, declared.types.Value.Value, Order.Row, Tree.Trees, Tree.IsAscending, Effect.Database, Listing.understood}
+use Rattle.desk_sql.specs.{Rows.Tables, Rows.VolumeColumns, Rows.SpanColumns, Rows.is_of, Rows.is_not_of, Rows.left_without, Rows.volume_row, Rows.cover_row, Rows.span_row, Rows.IsDesk, Rows.tables_of, Rows.is_row_by, Rows.operator_row, Rows.plan_row, Rows.AddsOperator, Rows.AddsPlan, Rows.AddsVolume, Rows.AddsSpan, Rows.SetsOperators, Rows.SetsPlans, Rows.RemovesPlan, Rows.RemovesSpans, Rows.RemovesOldVolumes, Rows.RemovesOldSpans, Changing.HasKey, Changing.HasRowids, Changing.IsShort, Changing.LacksKey, Changing.has_same_key, Changing.AreLow, Changing.FitsOperator, Changing.FitsPlan, Changing.FitsVolume, Changing.FitsSpan, Changing.IsSureChange, Statements.MayCount, Statements.MayWrite, Statements.Changes}
+use Rattle.desk_changes.specs.declared.{writing.VolumeRecord.VolumeRecord, writing.SpanRecord.SpanRecord, writing.PlanRecord.PlanRecord, change.RowChange.RowChange, change.RowChange.TheVariants.AddOperator, change.RowChange.TheVariants.AddPlan, change.RowChange.TheVariants.AddVolume, change.RowChange.TheVariants.AddSpan, change.RowChange.TheVariants.SetCeiling, change.RowChange.TheVariants.SetClosed, change.RowChange.TheVariants.RemovePlan, change.RowChange.TheVariants.RemoveSpans, change.RowChange.TheVariants.EmptyOldVolumes, change.RowChange.TheVariants.EmptyOldSpans}
 
 -- the columns of a record without `canon`; its row without `canon`; its row with the key and `canon` alone
 abbrev pub volume_columns : VolumeRecord → VolumeColumns

@@ -3,7 +3,10 @@ use Rattle.std.specs.Prelude.{ℕ, List, IsTrue, IsOkAnd, ◌≡◌, ◌≢◌, 
 use Rattle.s2_hilbert.specs.Grid.{GridLeaf, IsLeaf}
 use Rattle.s2_cellid.specs.Cell.{cell_has_leaf, read_token}
 use Rattle.volume4d.specs.Volume.{Point, area_has}
-use Rattle.desk_rules.specs.{Conflict.at_least, Limits.least_blocking, Outcome.ReplyParts, declared.plan.PlanRow.PlanRow, declared.plan.PutCall.PutCall, declared.reply.PutReply.PutReply, declared.words.PlanResult.TheVariants as result, declared.words.PlanStatus.TheVariants as status, Outcome as said}
+use Rattle.desk_rules.specs.{Conflict.at_least, Limits.least_blocking, Outcome.ReplyParts, declared.plan.PlanRow.PlanRow, declared.plan.PutCall.PutCall, declared.reply.PutReply.PutReply}
+use Rattle.desk_rules.specs.declared.words.PlanResult.TheVariants as result
+use Rattle.desk_rules.specs.declared.words.PlanStatus.TheVariants as status
+use Rattle.desk_rules.specs.Outcome as said
 use Rattle.desk_store.specs.World.{stored_of}
 use Rattle.desk_run.specs.Verdicts.{DeskWorld, held_in, row_asked}
 

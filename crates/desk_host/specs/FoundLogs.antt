@@ -8,10 +8,15 @@ use Rattle.std.specs.declared.io.Write as write
 use Rattle.io_ends.specs.declared.writing.WriteError.{WriteError}
 use Rattle.desk_wire.specs.Streams.{Course, course}
 use Rattle.db_file.specs.Wal.{least_with_commit, least_damaged, IsDamaged, IsUnchecked}
-use Rattle.desk_cli.specs.declared.failure.ErrorCode.{ErrorCode, TheVariants as failure}
+use Rattle.desk_cli.specs.declared.failure.ErrorCode.{ErrorCode}
+use Rattle.desk_cli.specs.declared.failure.ErrorCode.TheVariants as failure
 use Rattle.desk_program.specs.Keeping.{bytes_written}
-use Rattle.host_files.specs.{Access.Answers, Access.is_no_path, Naming.log_of, Naming.IsWrittenIfRoom, Naming.IsWrittenOnce, Naming.IsWrittenUpTo, Naming.line_of, Naming.Cleared, Naming.Failed, Naming.Follows, Naming.Removed, Naming.Step, Naming.Steps, Naming.Takes, Naming.ScratchCopied, declared.files.Found.Found, declared.state.Denial.Denial, declared.state.Denial.TheVariants as denial}
-use Rattle.desk_host.specs.declared.{logs.FoundLog.FoundLog, damage.LogCheck.LogCheck, damage.LogCheckError.LogCheckError, scratch.ScratchCopy.ScratchCopy, ways.ReadMode.ReadMode, logs.FoundLog.TheVariants as found_log, damage.LogCheckError.TheVariants as unlooked, ways.ReadMode.TheVariants as way}
+use Rattle.host_files.specs.{Access.Answers, Access.is_no_path, Naming.log_of, Naming.IsWrittenIfRoom, Naming.IsWrittenOnce, Naming.IsWrittenUpTo, Naming.line_of, Naming.Cleared, Naming.Failed, Naming.Follows, Naming.Removed, Naming.Step, Naming.Steps, Naming.Takes, Naming.ScratchCopied, declared.files.Found.Found, declared.state.Denial.Denial}
+use Rattle.host_files.specs.declared.state.Denial.TheVariants as denial
+use Rattle.desk_host.specs.declared.{logs.FoundLog.FoundLog, damage.LogCheck.LogCheck, damage.LogCheckError.LogCheckError, scratch.ScratchCopy.ScratchCopy, ways.ReadMode.ReadMode}
+use Rattle.desk_host.specs.declared.logs.FoundLog.TheVariants as found_log
+use Rattle.desk_host.specs.declared.damage.LogCheckError.TheVariants as unlooked
+use Rattle.desk_host.specs.declared.ways.ReadMode.TheVariants as way
 
 -- it is certain that a path leads to nothing; another error leaves that open
 abbrev pub is_gone : Result Found ErrorKind → Bool

@@ -7,8 +7,11 @@ use Rattle.desk_wire.specs.Streams.{Course, course}
 use Rattle.desk_cli.specs.{Malformed.parse_enrolment_line, Malformed.parse_enrolment_lines, Malformed.lines_of, declared.line.Enrolment.Enrolment}
 use Rattle.desk_program.specs.Serving.{Grows}
 use Rattle.host_files.specs.Naming.{IsWrittenIfRoom, line_of}
-use Rattle.desk_host.specs.declared.{folders.JournalError.JournalError, folders.JournalFile.JournalFile, folders.Greatest.Greatest, operators.FileReadError.FileReadError, operators.Stamp.Stamp, operators.FileReadError.TheVariants.Cause, operators.FileReadError.TheVariants.Memory, operators.LineCounts.LineCounts, folders.JournalError.TheVariants as unkept, operators.FileReadError.TheVariants as unread}
-use Rattle.desk_recording.specs.{Tail.HasNoTail, declared.tail.TailFault.TailFault, declared.tail.TailFault.TheVariants as tail}
+use Rattle.desk_host.specs.declared.{folders.JournalError.JournalError, folders.JournalFile.JournalFile, folders.Greatest.Greatest, operators.FileReadError.FileReadError, operators.Stamp.Stamp, operators.FileReadError.TheVariants.Cause, operators.FileReadError.TheVariants.Memory, operators.LineCounts.LineCounts}
+use Rattle.desk_host.specs.declared.folders.JournalError.TheVariants as unkept
+use Rattle.desk_host.specs.declared.operators.FileReadError.TheVariants as unread
+use Rattle.desk_recording.specs.{Tail.HasNoTail, declared.tail.TailFault.TailFault}
+use Rattle.desk_recording.specs.declared.tail.TailFault.TheVariants as tail
 
 -- the text about a file that can't be read; None if memory ran out
 abbrev pub unread_text : FileReadError → Option (List ℕ)

@@ -5,10 +5,12 @@ use Rattle.std.specs.{Io.KnownBytes.Appends, List.AllByRecursion}
 use Rattle.desk_rules.specs.{declared.terms.Terms.Terms, Limits.is_operator_name}
 use Rattle.desk_store.specs.{declared.store.PlanStore.Ghosts, Changes.HasRisen}
 use Rattle.desk_run.specs.Verdicts.{DeskWorld, enrolled, Parts}
-use Rattle.desk_record.specs.{Record.EntryParts, Record.entries, Record.entry, declared.kind.Kind.TheVariants as kind}
+use Rattle.desk_record.specs.Record.{EntryParts, entries, entry}
+use Rattle.desk_record.specs.declared.kind.Kind.TheVariants as kind
 use Rattle.io_ends.specs.{Writing.BreaksOff, Writing.IsMoment, declared.writing.PartialWrite.PartialWrite, declared.playing.PlayEnd.PlayEnd}
 use Rattle.desk_wire.specs.{Streams.Course, Streams.Passage, Streams.IsRequest, Playing.HasPlayed}
-use Rattle.desk_cli.specs.{declared.line.Enrolment.Enrolment, declared.line.PlayArgs.PlayArgs, declared.failure.ErrorCode.ErrorCode, declared.failure.ErrorCode.TheVariants.Store, Exits.Ending, Exits.EndsWith, Exits.EndsWell, Exits.FailsWith, Exits.IsBrokenDown, Exits.failure_after, Lines.AreEnrolments, declared.failure.ErrorCode.TheVariants as failure}
+use Rattle.desk_cli.specs.{declared.line.Enrolment.Enrolment, declared.line.PlayArgs.PlayArgs, declared.failure.ErrorCode.ErrorCode, declared.failure.ErrorCode.TheVariants.Store, Exits.Ending, Exits.EndsWith, Exits.EndsWell, Exits.FailsWith, Exits.IsBrokenDown, Exits.failure_after, Lines.AreEnrolments}
+use Rattle.desk_cli.specs.declared.failure.ErrorCode.TheVariants as failure
 use Rattle.desk_program.specs.declared.looking.CheckedFile.{CheckedFile}
 
 -- the world of a desk with these settings

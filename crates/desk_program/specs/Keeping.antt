@@ -6,7 +6,8 @@ use Rattle.std.specs.Option.{IsSomeAnd}
 use Rattle.desk_store.specs.{declared.store.PlanStore.Ghosts, Changes.IsHonest, Changes.Remembers, World.World}
 use Rattle.desk_run.specs.{Verdicts.DeskWorld, Verdicts.Parts, Verdicts.enrolled, Verdicts.world_of, Calls.FindsOnly}
 use Rattle.desk_wire.specs.{Streams.Course, Streams.Passage, Streams.course, Streams.passage, Streams.HasServed, Streams.IsTaken, Given.reported_in_play, Given.IsCertain, Given.IsKept, Given.IsLeftBy}
-use Rattle.desk_cli.specs.{declared.failure.ExitReport.ExitReport, declared.failure.ErrorCode.ErrorCode, declared.line.Enrolment.Enrolment, declared.line.Line.Line, declared.line.PlayArgs.PlayArgs, declared.line.ServeArgs.ServeArgs, Exits.Ending, Exits.ending, Exits.EndsWith, Exits.IsBrokenDown, Exits.FailsWith, Lines.IsEnrol, Lines.IsPlay, declared.line.Line.TheVariants as line}
+use Rattle.desk_cli.specs.{declared.failure.ExitReport.ExitReport, declared.failure.ErrorCode.ErrorCode, declared.line.Enrolment.Enrolment, declared.line.Line.Line, declared.line.PlayArgs.PlayArgs, declared.line.ServeArgs.ServeArgs, Exits.Ending, Exits.ending, Exits.EndsWith, Exits.IsBrokenDown, Exits.FailsWith, Lines.IsEnrol, Lines.IsPlay}
+use Rattle.desk_cli.specs.declared.line.Line.TheVariants as line
 use Rattle.desk_program.specs.{declared.running.Streams.Streams, Serving.Traffic, Serving.unreported, Serving.AreTaken, Serving.Exchange, Serving.HasBegunServing, Serving.IsNotBegun, Serving.passage_of, Serving.IsLineServed, Enrolling.AreEnrolledSoFar, Enrolling.on_terms, Enrolling.with_operators, Enrolling.IsNotPlayed, Enrolling.IsPlayed, Enrolling.HasCause, Enrolling.IsEnrolled, Enrolling.IsPlayDone}
 
 -- the bytes of the streams; what the port reported before and reports after; the end

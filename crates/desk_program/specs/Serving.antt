@@ -5,7 +5,8 @@ use Rattle.volume4d.specs.VolumeLimits.{max_second}
 use Rattle.desk_run.specs.Verdicts.{DeskWorld}
 use Rattle.io_ends.specs.declared.serving.{Served.Served, Served.TheVariants.Answered, Served.TheVariants.End, ServeFault.ServeFault}
 use Rattle.desk_wire.specs.Streams.{Course, Passage, course, passed, HasServed}
-use Rattle.desk_cli.specs.{declared.failure.ErrorCode.ErrorCode, declared.line.ServeArgs.ServeArgs, declared.line.Enrolment.Enrolment, declared.failure.ErrorCode.TheVariants as failure, Exits.Ending, Exits.EndsWith, Exits.IsAnnounced, Exits.IsLineBreakdown, Exits.failure_at}
+use Rattle.desk_cli.specs.{declared.failure.ErrorCode.ErrorCode, declared.line.ServeArgs.ServeArgs, declared.line.Enrolment.Enrolment, Exits.Ending, Exits.EndsWith, Exits.IsAnnounced, Exits.IsLineBreakdown, Exits.failure_at}
+use Rattle.desk_cli.specs.declared.failure.ErrorCode.TheVariants as failure
 use Rattle.desk_program.specs.{declared.port.ExchangeEnd.ExchangeEnd, Enrolling.AreEnrolled, Enrolling.AreEnrolledSoFar, Enrolling.on_terms, Enrolling.with_operators, Enrolling.IsOpen, Enrolling.Recorded, Enrolling.RecordsAnswer, Enrolling.RecordsEnrolments, Enrolling.RecordsNone, Enrolling.RecordsRequest}
 
 -- a second, in nanoseconds

@@ -2,14 +2,16 @@
 use Rattle.std.specs.Prelude.{⊤, Bool, true, false, Option, Some, option_map, Result, Ok, Err, ◌≡◌, ◌⊎◌, ℕ, List, None, IfSome, ◌≢◌, ◌≤◌, length, ℤ, nat_abs, [], ◌∷◌, ◌++◌, All, map, IsSome}
 use Rattle.std.specs.{Option.is_some, Option.IsSomeAnd, Io.Cursor.cursor_remaining, Io.KnownBytes.Appends, Io.KnownBytes.IsAtEnd}
 use Rattle.std.specs.declared.io.Write as write
-use Rattle.desk_store.specs.{declared.store.PlanStore as store, Changes.IsHonest, Changes.Remembers, World.World}
+use Rattle.desk_store.specs.declared.store.PlanStore as store
+use Rattle.desk_store.specs.{Changes.IsHonest, Changes.Remembers, World.World}
 use Rattle.desk_run.specs.{Calls.FindsOnly, Verdicts.DeskWorld, Verdicts.Parts, Verdicts.world_of, Verdicts.with_content}
 use Rattle.request_parser.specs.Requests.{asked}
 use Rattle.desk_record.specs.Record.{EntryParts, entries}
 use Rattle.io_ends.specs.Writing.{BreaksOff}
 use Rattle.desk_wire.specs.{Streams.Course, Streams.course, Streams.IsCut, Bytes.world_after}
 use Rattle.desk_replay.specs.Replaying.{State, played}
-use Rattle.desk_cli.specs.{declared.failure.ErrorCode.ErrorCode, declared.failure.ErrorCode.TheVariants.Broken, declared.failure.ErrorCode.TheVariants.Network, declared.failure.ExitReport.ExitReport, declared.line.PlayArgs.PlayArgs, declared.line.Enrolment.Enrolment, declared.failure.ErrorCode.TheVariants as failure, Exits.Ending, Exits.EndsWith, Exits.FailsWith, Exits.failure_at}
+use Rattle.desk_cli.specs.{declared.failure.ErrorCode.ErrorCode, declared.failure.ErrorCode.TheVariants.Broken, declared.failure.ErrorCode.TheVariants.Network, declared.failure.ExitReport.ExitReport, declared.line.PlayArgs.PlayArgs, declared.line.Enrolment.Enrolment, Exits.Ending, Exits.EndsWith, Exits.FailsWith, Exits.failure_at}
+use Rattle.desk_cli.specs.declared.failure.ErrorCode.TheVariants as failure
 use Rattle.desk_program.specs.{Enrolling.Ended, Enrolling.Noted, Enrolling.Open, Enrolling.Recorded, Enrolling.IsEndCounted, Enrolling.with_operators, Enrolling.JournalEnds, Enrolling.answer_entry, Enrolling.operator_entry, Enrolling.request_entry, Serving.Parting, Serving.Traffic, Serving.parted, Serving.Exchange, Keeping.ended, Keeping.IsFoundServed, Keeping.IsLeftByNews, PortGiven.IsInputKept, PortGiven.IsInputPlayed, declared.port.ExchangeEnd.ExchangeEnd}
 use Rattle.desk_recording.specs.{Recording.traffic_of, declared.port.RecordedPort.RecordedPort, declared.record.Record.Ghosts, declared.streams.BufferedRequest.BufferedRequest, declared.streams.BufferedResponse.BufferedResponse, declared.inputs.InputEnd.InputEnd, declared.inputs.InputEnd.TheVariants.AtEnd, declared.inputs.InputEnd.TheVariants.CutShort, declared.inputs.InputEnd.TheVariants.Unread, declared.inputs.InputEnd.TheVariants.OutOfMemory, declared.inputs.InputEnd.TheVariants.Unframed, declared.inputs.InputEnd.TheVariants.AppendError, declared.inputs.InputPort.InputPort}
 

@@ -1,7 +1,8 @@
 -- The writes to a journal file (docs/journal-format.md), and its first entries.
 use Rattle.std.specs.Prelude.{◌≡◌, ◌⊎◌, ⊤, ℕ, Bool, true, false, List, [], ◌∷◌, ◌++◌, map, Option, None, Some, option_map, zero, suc, option_to_list, if◌then◌else◌}
 use Rattle.desk_rules.specs.{Limits.is_permitted, declared.terms.Terms.Terms}
-use Rattle.desk_record.specs.{Record.EntryParts, Record.entries, Record.entry, declared.kind.Kind.Kind, declared.kind.Kind.TheVariants as kind}
+use Rattle.desk_record.specs.{Record.EntryParts, Record.entries, Record.entry, declared.kind.Kind.Kind}
+use Rattle.desk_record.specs.declared.kind.Kind.TheVariants as kind
 use Rattle.desk_replay.specs.Replaying.{version}
 use Rattle.desk_cli.specs.declared.line.Enrolment.{Enrolment}
 use Rattle.desk_program.specs.Enrolling.{Noted, answer_entry, operator_entry, request_entry}

@@ -5,7 +5,8 @@ use Rattle.desk_rules.specs.{Limits.max_priority, declared.terms.Terms.Terms}
 use Rattle.request_parser.specs.Requests.{asked}
 use Rattle.desk_run.specs.Verdicts.{DeskWorld}
 use Rattle.desk_wire.specs.{Bytes.text_for, Bytes.world_after, Streams.Course, Streams.course}
-use Rattle.desk_cli.specs.{declared.failure.ErrorCode.ErrorCode, declared.line.Enrolment.Enrolment, declared.failure.ErrorCode.TheVariants as failure, Exits.IsLineBreakdown}
+use Rattle.desk_cli.specs.{declared.failure.ErrorCode.ErrorCode, declared.line.Enrolment.Enrolment, Exits.IsLineBreakdown}
+use Rattle.desk_cli.specs.declared.failure.ErrorCode.TheVariants as failure
 use Rattle.desk_program.specs.{Enrolling.AreEnrolledSoFar, Enrolling.on_terms, Enrolling.with_operators, Serving.Parting, Serving.parted, declared.port.ExchangeEnd.ExchangeEnd}
 use Rattle.desk_replay.specs.Replaying.{last_moment}
 use Rattle.desk_recording.specs.{declared.recovering.RecoveryError.RecoveryError, declared.recovering.RecoveryError.TheVariants.OutOfMemory, declared.recovering.RecoveryError.TheVariants.Store, declared.recovering.RecoveryError.TheVariants.Clock, declared.recovering.RecoveryError.TheVariants.JournalError, Recording.Answered, Recording.Asked, Recording.Lost, Recording.Step, Tail.UnansweredParts}

@@ -3,7 +3,8 @@ use Rattle.std.specs.Prelude.{◌≡◌, ◌⊎◌, ⊤, ℕ, ◌+◌, ◌-◌, 
 use Rattle.std.specs.{List.AllByRecursion, Str.bytes_eq, Io.KnownBytes.Consumes, Io.KnownBytes.IsAtEnd}
 use Rattle.desk_rules.specs.{Limits.max_priority, Limits.max_spans, Limits.max_total_cells, Limits.is_operator_name, Limits.permitted_in, Outcome.no_terms, declared.permission.PermitFault.PermitFault, declared.terms.Terms.Terms}
 use Rattle.desk_cli.specs.declared.line.Enrolment.{Enrolment}
-use Rattle.desk_record.specs.{Record.EntryParts, Record.Fits, Record.entries, Record.entry, Record.IsDamagedRecord, Record.IsTooShort, declared.kind.Kind.Kind, declared.kind.Kind.TheVariants as kind}
+use Rattle.desk_record.specs.{Record.EntryParts, Record.Fits, Record.entries, Record.entry, Record.IsDamagedRecord, Record.IsTooShort, declared.kind.Kind.Kind}
+use Rattle.desk_record.specs.declared.kind.Kind.TheVariants as kind
 use Rattle.desk_replay.specs.Replaying.{is_failure, last_moment, version}
 use Rattle.desk_recording.specs.declared.tail.{Tail.Tail, PendingRequest.PendingRequest, TailEnd.TailEnd, TailEnd.TheVariants.End, TailEnd.TheVariants.Short, TailEnd.TheVariants.Damaged, TailFault.TailFault, TailFault.TheVariants.Read, TailFault.TheVariants.OutOfMemory, TailFault.TheVariants.NoRecord}
 

@@ -5,8 +5,10 @@ use Rattle.desk_rules.specs.{Limits.max_priority, Limits.max_spans, Limits.max_t
 use Rattle.desk_store.specs.{Changes.IsHonest, World.World, declared.store.PlanStore.Ghosts}
 use Rattle.desk_run.specs.Verdicts.{DeskWorld, IsSettled, Parts, enrolled, world_of}
 use Rattle.request_parser.specs.Requests.{asked}
-use Rattle.desk_record.specs.{Record.EntryParts, declared.kind.Kind.Kind, declared.kind.Kind.TheVariants as kind}
-use Rattle.desk_wire.specs.{Bytes.makes_change_for, Bytes.text_for, Bytes.world_after, Bytes.server_error_text, Bytes.Sent, Streams.Course, declared.response.ServerError.TheVariants as error}
+use Rattle.desk_record.specs.{Record.EntryParts, declared.kind.Kind.Kind}
+use Rattle.desk_record.specs.declared.kind.Kind.TheVariants as kind
+use Rattle.desk_wire.specs.{Bytes.makes_change_for, Bytes.text_for, Bytes.world_after, Bytes.server_error_text, Bytes.Sent, Streams.Course}
+use Rattle.desk_wire.specs.declared.response.ServerError.TheVariants as error
 use Rattle.desk_replay.specs.declared.{fault.ReplayFault.ReplayFault, fault.ReplayFault.TheVariants.OutOfMemory, fault.ReplayFault.TheVariants.Store, fault.ReplayFault.TheVariants.NoRecord, fault.ReplayFault.TheVariants.NotNext, fault.ReplayFault.TheVariants.Differs, progress.UnansweredRequest.UnansweredRequest, progress.Progress.Progress}
 
 -- ==== A journal replayed at a desk's world, entry by entry (docs/journal-format.md)

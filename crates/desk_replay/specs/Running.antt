@@ -3,11 +3,16 @@ use Rattle.std.specs.Prelude.{◌≡◌, ◌⊎◌, ℕ, ◌^◌, ◌-◌, min, 
 use Rattle.std.specs.{List.AllByRecursion, Io.KnownBytes.Consumes, Io.KnownBytes.IsAtEnd, Io.KnownBytes.Appends, Option.IsSomeAnd}
 use Rattle.desk_rules.specs.Outcome.{no_terms}
 use Rattle.desk_store.specs.{declared.store.PlanStore.Ghosts, Changes.IsHonest}
-use Rattle.desk_run.specs.{Verdicts.DeskWorld, Verdicts.Parts, Verdicts.world_of, declared.fault.DeskFault.DeskFault, declared.fault.DeskFault.TheVariants as desk}
-use Rattle.desk_record.specs.{Record.EntryParts, Record.Fits, Record.entries, Record.entry, Record.LacksEntry, declared.kind.Kind.Kind, declared.kind.Kind.TheVariants as kind, declared.reading.ReadFault.TheVariants as unread}
+use Rattle.desk_run.specs.{Verdicts.DeskWorld, Verdicts.Parts, Verdicts.world_of, declared.fault.DeskFault.DeskFault}
+use Rattle.desk_run.specs.declared.fault.DeskFault.TheVariants as desk
+use Rattle.desk_record.specs.{Record.EntryParts, Record.Fits, Record.entries, Record.entry, Record.LacksEntry, declared.kind.Kind.Kind}
+use Rattle.desk_record.specs.declared.kind.Kind.TheVariants as kind
+use Rattle.desk_record.specs.declared.reading.ReadFault.TheVariants as unread
 use Rattle.desk_wire.specs.Streams.{Course, course, Passage}
-use Rattle.desk_replay.specs.{declared.fault.ReplayFault.ReplayFault, declared.fault.ReplayFault.TheVariants.OutOfMemory, declared.fault.ReplayFault.TheVariants.Store, declared.fault.ReplayFault.TheVariants.NoRecord, declared.stream.ReplayEnd.ReplayEnd, declared.stream.ReplayEnd.TheVariants.End, declared.stream.ReplayEnd.TheVariants.Until, declared.stream.ReplayEnd.TheVariants.Unread, declared.stream.ReplayEnd.TheVariants.Unplayed, Replaying.IsDeskFault, Replaying.State, Replaying.played, Replaying.taken, declared.fault.ReplayFault.TheVariants as fault}
-use Rattle.desk_cli.specs.{Exits.EndsWith, Exits.Ending, Exits.FailsWith, Exits.IsPartlyWritten, Exits.IsWrittenOrCut, declared.failure.ErrorCode.ErrorCode, declared.failure.ErrorCode.TheVariants as failure}
+use Rattle.desk_replay.specs.{declared.fault.ReplayFault.ReplayFault, declared.fault.ReplayFault.TheVariants.OutOfMemory, declared.fault.ReplayFault.TheVariants.Store, declared.fault.ReplayFault.TheVariants.NoRecord, declared.stream.ReplayEnd.ReplayEnd, declared.stream.ReplayEnd.TheVariants.End, declared.stream.ReplayEnd.TheVariants.Until, declared.stream.ReplayEnd.TheVariants.Unread, declared.stream.ReplayEnd.TheVariants.Unplayed, Replaying.IsDeskFault, Replaying.State, Replaying.played, Replaying.taken}
+use Rattle.desk_replay.specs.declared.fault.ReplayFault.TheVariants as fault
+use Rattle.desk_cli.specs.{Exits.EndsWith, Exits.Ending, Exits.FailsWith, Exits.IsPartlyWritten, Exits.IsWrittenOrCut, declared.failure.ErrorCode.ErrorCode}
+use Rattle.desk_cli.specs.declared.failure.ErrorCode.TheVariants as failure
 
 -- the state before the first entry: no journal file has begun
 abbrev pub start : DeskWorld → State

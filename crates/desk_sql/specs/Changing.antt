@@ -1,14 +1,12 @@
 -- How the tables are changed, made and rebuilt, and why that is refused.
 use Rattle.std.specs.Prelude.{◌≡◌, ◌≤◌, ◌<◌, ◌^◌, ◌+ℤ◌, ℕ, pos, Bool, true, false, List, [], length, Option, Some, None, Result, Ok, Err, IsSome, ◌⊎◌, IsTrue, ⊤}
 use Rattle.std.specs.List.{AllByRecursion, list_all, list_any, range_with_len}
-use Rattle.sqlite.specs.{Order.Row, Order.column, Ops.fits_i64, Tree.rowid, Tree.IsTable, Tree.Trees, Edit.id_in, Edit.next_rowid, Calls.IsWrite, Does.Does, Effect.Database, Effect.IsDatabase, Listing.understood, State.text_of, State.HasCleanDisk, Store.Ghosts, Held.Held, Held.state, Schema.Schema, Given.IsPlain}
+use Rattle.sqlite.specs.{Order.Row, Order.column, Ops.fits_i64, Tree.rowid, Tree.IsTable, Tree.Trees, Edit.id_in, Edit.next_rowid, Calls.IsWrite, Does.Does, Effect.Database, Effect.IsDatabase, Listing.understood, State.text_of, State.HasCleanDisk, Store.Ghosts, Held.Held, Held.state, Schema.Schema, Given.IsPlain, declared.error.Error.Error, declared.error.Error.TheVariants.SqliteFailure, declared.types.Value.Value, declared.types.Value.TheVariants.Null, declared.types.Value.TheVariants.Int, declared.types.Value.TheVariants.Real, declared.types.Value.TheVariants.Text, declared.types.Value.TheVariants.Blob}
 use Rattle.sqlite_resolve.specs.declared.{compiled.Compiled.Compiled, error.CompileError.CompileError}
-use Rattle.sqlite.specs.declared.{error.Error.Error, error.Error.TheVariants.SqliteFailure, types.Value.Value, types.Value.TheVariants.Null, types.Value.TheVariants.Int, types.Value.TheVariants.Real, types.Value.TheVariants.Text, types.Value.TheVariants.Blob}
 use Rattle.sqlite.specs.declared.error.ErrorCode.TheVariants as code
 use Rattle.sqlite_schema.specs.declared.schema.Index.{Index}
 use Rattle.sqlite_catalog.specs.Change.{without_table, without_index, KeepsRows}
-use Rattle.desk_sql.specs.{Schema.beside_of, Schema.desk_in, Schema.IsDeskSchema, Schema.schema_of, Schema.packed_schema, Schema.old_span_first, Rows.IsDesk, Rows.is_same, Rows.tables_of, Rows.IsMadeTo, Rows.Tables, Rows.tables_at, Rows.old_tables_of, Statements.enforced, Statements.Extends, Statements.IsWriting, Statements.MayWrite}
-use Rattle.desk_sql.specs.declared.opening.finding.{TablesPresent.TablesPresent, TablesPresent.TheVariants.Nothing, TablesPresent.TheVariants.Operators, TablesPresent.TheVariants.Plans, TablesPresent.TheVariants.OldVolumes, TablesPresent.TheVariants.OldSpans, TablesPresent.TheVariants.OldIndex, TablesPresent.TheVariants.Volumes, TablesPresent.TheVariants.Spans, TablesPresent.TheVariants.All, TablesPresent.TheVariants.Packed}
+use Rattle.desk_sql.specs.{Schema.beside_of, Schema.desk_in, Schema.IsDeskSchema, Schema.schema_of, Schema.packed_schema, Schema.old_span_first, Rows.IsDesk, Rows.is_same, Rows.tables_of, Rows.IsMadeTo, Rows.Tables, Rows.tables_at, Rows.old_tables_of, Statements.enforced, Statements.Extends, Statements.IsWriting, Statements.MayWrite, declared.opening.finding.TablesPresent.TablesPresent, declared.opening.finding.TablesPresent.TheVariants.Nothing, declared.opening.finding.TablesPresent.TheVariants.Operators, declared.opening.finding.TablesPresent.TheVariants.Plans, declared.opening.finding.TablesPresent.TheVariants.OldVolumes, declared.opening.finding.TablesPresent.TheVariants.OldSpans, declared.opening.finding.TablesPresent.TheVariants.OldIndex, declared.opening.finding.TablesPresent.TheVariants.Volumes, declared.opening.finding.TablesPresent.TheVariants.Spans, declared.opening.finding.TablesPresent.TheVariants.All, declared.opening.finding.TablesPresent.TheVariants.Packed}
 
 -- ---- what SQLite can store
 -- at most 100 million bytes; SQLite stores rows of a billion

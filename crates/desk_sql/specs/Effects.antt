@@ -1,10 +1,8 @@
 -- What tables a database has, what a call requires of a connection, and what it preserves.
 use Rattle.std.specs.Prelude.{◌≡◌, List, [], ◌∷◌, ◌++◌, ℤ, Bool, ◌&&◌, int_lt, if◌then◌else◌, Option, None, Some, true, false, IsTrue, ◌⊎◌, ◌≤◌}
 use Rattle.std.specs.List.{AllByRecursion}
-use Rattle.sqlite.specs.{Order.Row, Tree.rowid, Tree.IsTable, Tree.Trees, View.is_int, View.doubt as doubt_of, Store.Ghosts, State.HasCleanDisk, Held.Held, Held.state, Effect.Database, Effect.IsDatabase}
-use Rattle.sqlite.specs.declared.types.{Value.Value, Value.TheVariants.Null, Value.TheVariants.Int, Value.TheVariants.Real, Value.TheVariants.Text, Value.TheVariants.Blob}
-use Rattle.desk_sql.specs.declared.opening.finding.TablesPresent.{TablesPresent}
-use Rattle.desk_sql.specs.{Schema.beside_of, Schema.desk_in, Schema.IsSchemaOf, Rows.IsDesk, Rows.Tables, Rows.tables_of}
+use Rattle.sqlite.specs.{Order.Row, Tree.rowid, Tree.IsTable, Tree.Trees, View.is_int, View.doubt as doubt_of, Store.Ghosts, State.HasCleanDisk, Held.Held, Held.state, Effect.Database, Effect.IsDatabase, declared.types.Value.Value, declared.types.Value.TheVariants.Null, declared.types.Value.TheVariants.Int, declared.types.Value.TheVariants.Real, declared.types.Value.TheVariants.Text, declared.types.Value.TheVariants.Blob}
+use Rattle.desk_sql.specs.{declared.opening.finding.TablesPresent.TablesPresent, Schema.beside_of, Schema.desk_in, Schema.IsSchemaOf, Rows.IsDesk, Rows.Tables, Rows.tables_of}
 
 -- the database that an open connection over a clean disk shows has this property
 abbrev pub Holds : {S : Type 0} → Ghosts S → Held S → (Database → Type 0) → Type 0

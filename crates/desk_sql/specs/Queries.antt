@@ -1,13 +1,10 @@
 -- What each query lists, what it hands over, and its result.
 use Rattle.std.specs.Prelude.{ℕ, ℤ, pos, Bool, if◌then◌else◌, List, [], ◌∷◌, map, filter, ◌≡◌, ◌≤◌, ◌⊎◌, ◌-◌, ◌^◌, true, false, ◌++◌, length, Result, IfOk, IfErr, IsTrue, OnErr, OnOk}
-use Rattle.sqlite.specs.declared.{types.Value.TheVariants.Int, types.Value.TheVariants.Null, types.Value.TheVariants.Text, error.Error.Error, error.Error.TheVariants.SqliteFailure}
-use Rattle.sqlite.specs.{Order.Row, Store.Ghosts, Held.Held, Held.state, Given.HasGiven, Given.FailsToAdvance, Given.IsPlain, Listing.understood, State.HasCleanDisk, State.FailsToQuery, State.Shown, State.IsUnchanged, State.IsRolledBack, State.KeepsCommit, Tree.Trees, Effect.Database}
+use Rattle.sqlite.specs.{declared.types.Value.TheVariants.Int, declared.types.Value.TheVariants.Null, declared.types.Value.TheVariants.Text, declared.error.Error.Error, declared.error.Error.TheVariants.SqliteFailure, Order.Row, Store.Ghosts, Held.Held, Held.state, Given.HasGiven, Given.FailsToAdvance, Given.IsPlain, Listing.understood, State.HasCleanDisk, State.FailsToQuery, State.Shown, State.IsUnchanged, State.IsRolledBack, State.KeepsCommit, Tree.Trees, Effect.Database}
 use Rattle.sqlite.specs.declared.error.ErrorCode.TheVariants as code
-use Rattle.desk_sql.specs.declared.{opening.numbers.DeskTable.DeskTable, reading.rivals.SpanFilter.SpanFilter, reading.whole.WholeTable.WholeTable}
-use Rattle.desk_sql.specs.declared.{reading.query.Query.Query, reading.query.Query.TheVariants.PlanOf, reading.query.Query.TheVariants.VolumesOf, reading.query.Query.TheVariants.OwnPlans, reading.query.Query.TheVariants.RivalSpans, reading.query.Query.TheVariants.OtherSpans, reading.query.Query.TheVariants.SpansOf}
+use Rattle.desk_sql.specs.{declared.opening.numbers.DeskTable.DeskTable, declared.reading.rivals.SpanFilter.SpanFilter, declared.reading.whole.WholeTable.WholeTable, declared.reading.query.Query.Query, declared.reading.query.Query.TheVariants.PlanOf, declared.reading.query.Query.TheVariants.VolumesOf, declared.reading.query.Query.TheVariants.OwnPlans, declared.reading.query.Query.TheVariants.RivalSpans, declared.reading.query.Query.TheVariants.OtherSpans, declared.reading.query.Query.TheVariants.SpansOf, Rows.Tables, Rows.is_row_by, Rows.is_of, Rows.with_volumes, Rows.is_rival_from, Rows.columns_from_first, Rows.is_others_from, Rows.is_plan_span, Rows.tables_in, Effects.Remembers, Effects.StaysShown, Effects.Makes, Effects.Commits, Effects.MayMake, Effects.IsUnderWay, Effects.OnlyReads, Effects.IsOver, Statements.IsRefusal, Statements.SelectsAll}
 use Rattle.desk_sql.specs.declared.opening.numbers.DeskTable.TheVariants as desk
 use Rattle.desk_sql.specs.declared.reading.whole.WholeTable.TheVariants as whole
-use Rattle.desk_sql.specs.{Rows.Tables, Rows.is_row_by, Rows.is_of, Rows.with_volumes, Rows.is_rival_from, Rows.columns_from_first, Rows.is_others_from, Rows.is_plan_span, Rows.tables_in, Effects.Remembers, Effects.StaysShown, Effects.Makes, Effects.Commits, Effects.MayMake, Effects.IsUnderWay, Effects.OnlyReads, Effects.IsOver, Statements.IsRefusal, Statements.SelectsAll}
 
 -- whatever the old state kept of an earlier one, the new state keeps too
 abbrev pub KeepsOn : {A : Type 0} → (A → A → Type 0) → A → A → Type 0

@@ -2,11 +2,8 @@
 use Rattle.std.specs.Prelude.{◌≡◌, ℕ, ℤ, pos, Bool, true, false, ◌&&◌, ◌||◌, not, List, [], ◌∷◌, map, drop, filter, ◌++◌, IsPermutation, IsSorted, if◌then◌else◌}
 use Rattle.std.specs.{Ordering.is_eq, Ordering.is_lt, Ordering.is_le, Ordering.is_gt, Ordering.is_ge, Ordering.ordering_then, List.AllByRecursion, List.flat_map, List.list_any, List.range_with_len}
 use Rattle.std.specs.declared.cmp.{Ordering.Ordering, Ordering.TheVariants.Equal}
-use Rattle.sqlite.specs.{Ops.is_null, Order.Row, Order.column, Order.value_cmp, Tree.Trees, Tree.rowid, Tree.IsAscending, View.is_int, Effect.Database}
-use Rattle.sqlite.specs.declared.types.{Value.Value, Value.TheVariants.Int, Value.TheVariants.Text, Value.TheVariants.Blob}
-use Rattle.desk_sql.specs.declared.opening.finding.{TablesPresent.TablesPresent, TablesPresent.TheVariants.Nothing, TablesPresent.TheVariants.Operators, TablesPresent.TheVariants.Plans, TablesPresent.TheVariants.OldVolumes, TablesPresent.TheVariants.OldSpans, TablesPresent.TheVariants.OldIndex, TablesPresent.TheVariants.Volumes, TablesPresent.TheVariants.Spans, TablesPresent.TheVariants.All, TablesPresent.TheVariants.Packed}
-use Rattle.desk_sql.specs.declared.{opening.numbers.DeskTable.DeskTable, opening.numbers.DeskTable.TheVariants.PackedVolume, opening.numbers.DeskTable.TheVariants.Volume, reading.rivals.SpanFilter.SpanFilter}
-use Rattle.desk_sql.specs.Schema.{IsDeskSchema, IsSchemaOf, tree_of, has_table}
+use Rattle.sqlite.specs.{Ops.is_null, Order.Row, Order.column, Order.value_cmp, Tree.Trees, Tree.rowid, Tree.IsAscending, View.is_int, Effect.Database, declared.types.Value.Value, declared.types.Value.TheVariants.Int, declared.types.Value.TheVariants.Text, declared.types.Value.TheVariants.Blob}
+use Rattle.desk_sql.specs.{declared.opening.finding.TablesPresent.TablesPresent, declared.opening.finding.TablesPresent.TheVariants.Nothing, declared.opening.finding.TablesPresent.TheVariants.Operators, declared.opening.finding.TablesPresent.TheVariants.Plans, declared.opening.finding.TablesPresent.TheVariants.OldVolumes, declared.opening.finding.TablesPresent.TheVariants.OldSpans, declared.opening.finding.TablesPresent.TheVariants.OldIndex, declared.opening.finding.TablesPresent.TheVariants.Volumes, declared.opening.finding.TablesPresent.TheVariants.Spans, declared.opening.finding.TablesPresent.TheVariants.All, declared.opening.finding.TablesPresent.TheVariants.Packed, declared.opening.numbers.DeskTable.DeskTable, declared.opening.numbers.DeskTable.TheVariants.PackedVolume, declared.opening.numbers.DeskTable.TheVariants.Volume, declared.reading.rivals.SpanFilter.SpanFilter, Schema.IsDeskSchema, Schema.IsSchemaOf, Schema.tree_of, Schema.has_table}
 
 -- ---- what a row holds
 -- the rows of `operator`, and of `plan`, with these values

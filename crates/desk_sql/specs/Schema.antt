@@ -1,14 +1,11 @@
 -- The schema of the database, and the forms by which the program describes its tables and indexes.
 use Rattle.std.specs.Prelude.{true, false, [], ◌∷◌, List, ℕ, Bool, None, codes, ◌≡◌, ◌+◌, map, not, ◌&&◌, ◌++◌, drop, nat_lt}
 use Rattle.std.specs.List.{list_all, list_any}
-use Rattle.sqlite.specs.{Collation.TheVariants.Binary, Table.Table, Schema.Schema, Kind.Kind, Kind.TheVariants.Integer, Kind.TheVariants.Text, Kind.TheVariants.Blob, Effect.Database}
-use Rattle.sqlite.specs.declared.types.Value.TheVariants.{Null}
-use Rattle.sqlite_schema.specs.declared.schema.{Action.TheVariants.NoAction, Action.TheVariants.Cascade, Column.Column, Index.Index, Reference.Reference, Stamps.Stamps, View.View}
-use Rattle.sqlite_schema.specs.Names.{same_name}
+use Rattle.sqlite.specs.{Collation.TheVariants.Binary, Table.Table, Schema.Schema, Kind.Kind, Kind.TheVariants.Integer, Kind.TheVariants.Text, Kind.TheVariants.Blob, Effect.Database, declared.types.Value.TheVariants.Null}
+use Rattle.sqlite_schema.specs.{declared.schema.Action.TheVariants.NoAction, declared.schema.Action.TheVariants.Cascade, declared.schema.Column.Column, declared.schema.Index.Index, declared.schema.Reference.Reference, declared.schema.Stamps.Stamps, declared.schema.View.View, Names.same_name}
 use Rattle.sqlite_value.specs.Keys.{plain}
 use Rattle.sqlite_catalog.specs.Change.{created, indexed}
-use Rattle.desk_sql.specs.declared.opening.finding.{TablesPresent.TablesPresent, TablesPresent.TheVariants.Nothing, TablesPresent.TheVariants.Operators, TablesPresent.TheVariants.Plans, TablesPresent.TheVariants.OldVolumes, TablesPresent.TheVariants.OldSpans, TablesPresent.TheVariants.OldIndex, TablesPresent.TheVariants.Volumes, TablesPresent.TheVariants.Spans, TablesPresent.TheVariants.All, TablesPresent.TheVariants.Packed}
-use Rattle.desk_sql.specs.declared.{opening.numbers.DeskTable.DeskTable, opening.objects.ColumnForm.ColumnForm, opening.objects.ReferenceForm.ReferenceForm, opening.objects.TableForm.TableForm, opening.objects.DeskObject.DeskObject}
+use Rattle.desk_sql.specs.declared.opening.{finding.TablesPresent.TablesPresent, finding.TablesPresent.TheVariants.Nothing, finding.TablesPresent.TheVariants.Operators, finding.TablesPresent.TheVariants.Plans, finding.TablesPresent.TheVariants.OldVolumes, finding.TablesPresent.TheVariants.OldSpans, finding.TablesPresent.TheVariants.OldIndex, finding.TablesPresent.TheVariants.Volumes, finding.TablesPresent.TheVariants.Spans, finding.TablesPresent.TheVariants.All, finding.TablesPresent.TheVariants.Packed, numbers.DeskTable.DeskTable, objects.ColumnForm.ColumnForm, objects.ReferenceForm.ReferenceForm, objects.TableForm.TableForm, objects.DeskObject.DeskObject}
 use Rattle.desk_sql.specs.declared.opening.numbers.DeskTable.TheVariants as desk
 use Rattle.desk_sql.specs.declared.opening.objects.ColumnForm.TheVariants as column
 use Rattle.desk_sql.specs.declared.opening.objects.DeskObject.TheVariants as object

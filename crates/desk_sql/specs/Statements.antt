@@ -1,14 +1,11 @@
 -- What a text of SQL selects, changes or makes, and why tables are not read.
 use Rattle.std.specs.Prelude.{◌≡◌, ◌⊎◌, ℕ, ◌≤◌, List, [], length, Option, Result, Ok, Err, None, IsSome, false, ◌∷◌, map, unwrap_or}
 use Rattle.sqlite_disk.specs.Disk.{MoreFaults}
-use Rattle.sqlite_schema.specs.declared.{command.Command.Command, command.Command.TheVariants.Select, schema.Keys.TheVariants.Enforced}
+use Rattle.sqlite_schema.specs.{declared.command.Command.Command, declared.command.Command.TheVariants.Select, declared.schema.Keys.TheVariants.Enforced, Program.lets_of}
 use Rattle.sqlite_resolve.specs.declared.{compiled.Compiled.Compiled, error.CompileError.CompileError}
-use Rattle.sqlite.specs.declared.{error.Error.Error, error.Error.TheVariants.SqliteFailure, run.Mode.Mode}
+use Rattle.sqlite.specs.{declared.error.Error.Error, declared.error.Error.TheVariants.SqliteFailure, declared.run.Mode.Mode, Effect.Database, Effect.RefusesToRead, Effect.Reads, Order.Row, Listing.understood, Listing.reads_listing, Store.Ghosts, Held.Held, Held.state, Schema.Schema, Tree.Trees, Tree.rowid, Does.Tally, Does.Does, Calls.IsWrite, State.text_of, Given.IsPlain}
 use Rattle.sqlite.specs.declared.error.ErrorCode.TheVariants as code
-use Rattle.sqlite.specs.{Effect.Database, Effect.RefusesToRead, Effect.Reads, Order.Row, Listing.understood, Listing.reads_listing, Store.Ghosts, Held.Held, Held.state, Schema.Schema, Tree.Trees, Tree.rowid, Does.Tally, Does.Does, Calls.IsWrite, State.text_of, Given.IsPlain}
-use Rattle.sqlite_schema.specs.Program.{lets_of}
-use Rattle.desk_sql.specs.declared.{opening.finding.TablesPresent.TablesPresent, opening.numbers.DeskTable.DeskTable}
-use Rattle.desk_sql.specs.{Schema.schema_of, Schema.tree_of, Schema.beside_of, Schema.IsDeskSchema, Schema.IsSchemaOf, Schema.HasTable, Rows.AreNumbered, Rows.IsMadeTo, Rows.IsDesk, Rows.Tables, Rows.tables_of, Rows.tables_at, Rows.Lists}
+use Rattle.desk_sql.specs.{declared.opening.finding.TablesPresent.TablesPresent, declared.opening.numbers.DeskTable.DeskTable, Schema.schema_of, Schema.tree_of, Schema.beside_of, Schema.IsDeskSchema, Schema.IsSchemaOf, Schema.HasTable, Rows.AreNumbered, Rows.IsMadeTo, Rows.IsDesk, Rows.Tables, Rows.tables_of, Rows.tables_at, Rows.Lists}
 
 -- a command that reads, under a schema and given these parameters, is refused by a limit on steps alone
 abbrev pub NeverRefuses : Schema → Command → Row → Type 0

@@ -2,20 +2,16 @@
 use Rattle.std.specs.Prelude.{◌≡◌, ◌≢◌, ◌≤◌, ◌⊎◌, Bool, true, List, ◌++◌, map, IsTrue, IsPermutation, Result, Ok, Err}
 use Rattle.sqlite_disk.specs.declared.Disk as disk
 use Rattle.sqlite_wal.specs.Recovery.{Image}
-use Rattle.sqlite_trees.specs.declared.store.Store.{Ghosts}
-use Rattle.sqlite_trees.specs.View.{doubt as doubt_of}
-use Rattle.sqlite_store.specs.declared.store.FileStore.{FileStore}
-use Rattle.sqlite_store.specs.FileStore.{view}
+use Rattle.sqlite_trees.specs.{declared.store.Store.Ghosts, View.doubt as doubt_of}
+use Rattle.sqlite_store.specs.{declared.store.FileStore.FileStore, FileStore.view}
 use Rattle.sqlite_value.specs.Order.{Row}
 use Rattle.sqlite.specs.{Effect.Database, State.HasCleanDisk, Held.Held, Held.IsNew, Held.state, Files.over_files, Files.file_state, Files.IsBlankAs}
-use Rattle.desk_sql.specs.{Effects.IsOpenIfClean, Effects.OnlyReads, Effects.HasOthers, Schema.blank_schema, Statements.HasDiskFailed, Statements.IsMisnumbered, Rows.IsMadeTo, Rows.Tables}
-use Rattle.desk_sql.specs.declared.opening.finding.{TablesPresent.TablesPresent, TablesPresent.TheVariants.Nothing}
+use Rattle.desk_sql.specs.{Effects.IsOpenIfClean, Effects.OnlyReads, Effects.HasOthers, Schema.blank_schema, Statements.HasDiskFailed, Statements.IsMisnumbered, Rows.IsMadeTo, Rows.Tables, declared.opening.finding.TablesPresent.TablesPresent, declared.opening.finding.TablesPresent.TheVariants.Nothing}
 use Rattle.desk_store.specs.World.{Filed, Listed, World}
 use Rattle.row_codec.specs.Tables.{row_of_operator, operator_rows, plan_rows, volume_rows, cover_rows, AreSpanRows}
-use Rattle.table_load.specs.{Opening.BlamesDisk, Files.FindsFirst, Files.IsOfUnreached, Files.IsUnread, Moving.ShowsContent, Moving.ShowsNone}
+use Rattle.table_load.specs.{Opening.BlamesDisk, Files.FindsFirst, Files.IsOfUnreached, Files.IsUnread, Moving.ShowsContent, Moving.ShowsNone, declared.path.NotOpened.NotOpened, declared.fault.OpenFault.OpenFault, declared.fault.OpenFault.TheVariants.NotADesk, declared.fault.OpenFault.TheVariants.OldSchema, declared.fault.OpenFault.TheVariants.Store}
 use Rattle.desk_tables.specs.declared.opening.files.CopyFault.{CopyFault}
 use Rattle.desk_tables.specs.declared.opening.files.CopyFault.TheVariants as copy
-use Rattle.table_load.specs.declared.{path.NotOpened.NotOpened, fault.OpenFault.OpenFault, fault.OpenFault.TheVariants.NotADesk, fault.OpenFault.TheVariants.OldSchema, fault.OpenFault.TheVariants.Store}
 
 -- a table of the schema, or another
 abbrev pub HasTables : Database → Type 0

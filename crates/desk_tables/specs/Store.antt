@@ -1,21 +1,16 @@
 -- A store over tables: what contracts see of it, the results of its readers and changes, and why it fails.
 use Rattle.std.specs.Prelude.{ℕ, refl, List, ◌≡◌, ◌⊎◌, ◌≤◌, ◌-◌, ◌^◌, IsTrue, length, Result, IfErr, IfOk, ◌≢◌, MatchResult, Ok, OnErr, OnOk, [], ◌∷◌, Option, Some, None, pos, Bool, ◌++◌, take, drop, not, cond, map}
 use Rattle.std.specs.{Coded.Coded, Coded.code_by, Coded.coded×, Coded.coded_ℕ, Result.IsErrAnd, List.find, List.filter, List.list_any, List.AllByRecursion, List.Sorted.IsPermutation}
-use Rattle.sqlite.specs.{Held.Held, Held.held_code, Held.state, State.HasCleanDisk, Effect.Database, Files.FailsToClose, Files.IsClosed}
-use Rattle.sqlite_trees.specs.declared.store.Store.{Ghosts}
-use Rattle.sqlite_value.specs.Order.{Row}
-use Rattle.sqlite_trees.specs.View.{doubt as doubt_of, IsClean}
-use Rattle.sqlite.specs.declared.error.{Error.Error, Error.TheVariants.SqliteFailure}
+use Rattle.sqlite.specs.{Held.Held, Held.held_code, Held.state, State.HasCleanDisk, Effect.Database, Files.FailsToClose, Files.IsClosed, declared.error.Error.Error, declared.error.Error.TheVariants.SqliteFailure}
+use Rattle.sqlite_trees.specs.{declared.store.Store.Ghosts, View.doubt as doubt_of, View.IsClean}
+use Rattle.sqlite_value.specs.{Order.Row, declared.value.Value.TheVariants.Int}
 use Rattle.sqlite.specs.declared.error.ErrorCode.TheVariants as code
 use Rattle.sqlite_disk.specs.declared.Disk as disk
-use Rattle.sqlite_store.specs.declared.store.FileStore.{FileStore}
-use Rattle.sqlite_store.specs.FileStore.{view}
-use Rattle.sqlite_value.specs.declared.value.Value.TheVariants.{Int}
+use Rattle.sqlite_store.specs.{declared.store.FileStore.FileStore, FileStore.view}
 use Rattle.desk_rules.specs.Limits.{is_operator_name}
 use Rattle.desk_rules.specs.declared.words.Usage.TheVariants as usage
-use Rattle.desk_store.specs.{World.World, World.Filed, World.is_own, World.IsId, World.IsPlan, Changes.filed_by, Changes.IsFitting, Changes.changed_by}
+use Rattle.desk_store.specs.{World.World, World.Filed, World.is_own, World.IsId, World.IsPlan, Changes.filed_by, Changes.IsFitting, Changes.changed_by, declared.change.Change.Change, declared.change.Change.TheVariants.Enrol, declared.change.Change.TheVariants.Put, declared.change.Change.TheVariants.Close, declared.change.Change.TheVariants.Clear, declared.fault.StoreFault.StoreFault, declared.fault.StoreFault.TheVariants.Store}
 use Rattle.desk_store.specs.contracts.list.ListStore as list
-use Rattle.desk_store.specs.declared.{change.Change.Change, change.Change.TheVariants.Enrol, change.Change.TheVariants.Put, change.Change.TheVariants.Close, change.Change.TheVariants.Clear, fault.StoreFault.StoreFault, fault.StoreFault.TheVariants.Store}
 use Rattle.desk_sql.specs.{Rows.tables_of, Rows.Tables, Rows.operator_row, Rows.is_row_by, Rows.is_of, Rows.is_not_of, Changing.AreLow, Changing.HasRowids, Statements.HasDiskFailed, Effects.OnlyReads}
 use Rattle.desk_changes.specs.RowChanges.{HasRoomFor}
 use Rattle.row_codec.specs.Tables.{ArePlanSpanRows, id_text, usage_number, row_of_plan, area_rows, area_covers, HasNoOldRows}

@@ -3,8 +3,15 @@ use Rattle.std.specs.Prelude.{◌≡◌, ◌↔◌, ℕ, Bool, IsTrue, List, Opt
 use Rattle.std.specs.declared.{io.ErrorKind.ErrorKind, fs.attrs.Metadata.Metadata}
 use Rattle.std.specs.{Fs.IsFile, Fs.file_type, Fs.metadata_len, List.starts_with}
 use Rattle.std.specs.declared.io.ErrorKind.TheVariants as kind
-use Rattle.sqlite_std_file.specs.declared.pair.OpenError.{OpenError, TheVariants as opening}
-use Rattle.host_files.specs.{declared.files.Found.Found, declared.files.Identity.Identity, declared.state.Denial.Denial, declared.state.FileState.FileState, declared.state.Missing.Missing, declared.state.Start.Start, declared.state.Place.Place, declared.state.Next.Next, Naming.Failed, Naming.Follows, Naming.Steps, Naming.Tried, declared.state.FileState.TheVariants as state, declared.state.Missing.TheVariants as missing, declared.state.Denial.TheVariants as denial, declared.state.Start.TheVariants as start, declared.state.Place.TheVariants as place, declared.state.Next.TheVariants as next}
+use Rattle.sqlite_std_file.specs.declared.pair.OpenError.{OpenError}
+use Rattle.sqlite_std_file.specs.declared.pair.OpenError.TheVariants as opening
+use Rattle.host_files.specs.{declared.files.Found.Found, declared.files.Identity.Identity, declared.state.Denial.Denial, declared.state.FileState.FileState, declared.state.Missing.Missing, declared.state.Start.Start, declared.state.Place.Place, declared.state.Next.Next, Naming.Failed, Naming.Follows, Naming.Steps, Naming.Tried}
+use Rattle.host_files.specs.declared.state.FileState.TheVariants as state
+use Rattle.host_files.specs.declared.state.Missing.TheVariants as missing
+use Rattle.host_files.specs.declared.state.Denial.TheVariants as denial
+use Rattle.host_files.specs.declared.state.Start.TheVariants as start
+use Rattle.host_files.specs.declared.state.Place.TheVariants as place
+use Rattle.host_files.specs.declared.state.Next.TheVariants as next
 
 -- the answers, by the path that is asked about
 pub record Answers : Type 0 where

@@ -6,7 +6,8 @@ use Rattle.std.specs.Io.KnownBytes.{Appends}
 use Rattle.io_ends.specs.{Writing.BreaksOff, declared.writing.WriteError.WriteError, declared.writing.PartialWrite.PartialWrite}
 use Rattle.desk_wire.specs.Streams.{Course}
 use Rattle.desk_program.specs.Serving.{Grows}
-use Rattle.host_files.specs.declared.{naming.NewFile.NewFile, pairs.ScratchFault.ScratchFault, pairs.ScratchFault.TheVariants as fault}
+use Rattle.host_files.specs.declared.{naming.NewFile.NewFile, pairs.ScratchFault.ScratchFault}
+use Rattle.host_files.specs.declared.pairs.ScratchFault.TheVariants as fault
 
 -- ==== The steps by which a new file gets its name
 -- Steps are those of the trait `Folder`.

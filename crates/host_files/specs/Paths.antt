@@ -3,7 +3,9 @@ use Rattle.std.specs.Prelude.{◌≡◌, ◌⊎◌, ℕ, List, [], ◌∷◌, Bo
 use Rattle.std.specs.declared.io.ErrorKind.{ErrorKind}
 use Rattle.desk_wire.specs.Streams.{course, Course}
 use Rattle.desk_program.specs.Serving.{Grows}
-use Rattle.host_files.specs.{declared.naming.Folder as folder, Naming.Steps, Naming.log_of, Access.Answers, declared.files.HostFiles as files, declared.files.Found.Found, declared.files.Identity.Identity, declared.paths.LocalOpenPaths.LocalOpenPaths}
+use Rattle.host_files.specs.declared.naming.Folder as folder
+use Rattle.host_files.specs.{Naming.Steps, Naming.log_of, Access.Answers, declared.files.Found.Found, declared.files.Identity.Identity, declared.paths.LocalOpenPaths.LocalOpenPaths}
+use Rattle.host_files.specs.declared.files.HostFiles as files
 
 -- the steps that a `Folder` has taken, before a call and after it
 abbrev pub steps_of : {P : Type 0} → folder.Ghosts P → P → P → Steps

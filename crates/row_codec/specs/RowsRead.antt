@@ -1,23 +1,16 @@
 -- What rows of answers hold: plans, volumes, and the slabs of others.
 use Rattle.std.specs.Prelude.{◌≡◌, ℕ, ◌+◌, pos, Bool, false, int_lt, List, map, ◌≢◌, ◌≤◌, ◌<◌, ◌^◌, ◌⊎◌, true, [], ◌∷◌, ◌++◌, length, Option, Some, None, ◌-◌, ◌*◌, ◌&&◌, ℤ, filter, IsPermutation, FitsSigned, Ok, Result, MatchResult}
 use Rattle.std.specs.{List.flat_map, List.AllByRecursion, List.AllZip, List.sum_by, Int.w32, Result.IsErrAnd}
-use Rattle.sqlite_value.specs.declared.value.{Value.TheVariants.Null, Value.TheVariants.Int, Value.TheVariants.Real, Value.TheVariants.Text, Value.TheVariants.Blob, Value.Value}
-use Rattle.sqlite_value.specs.Order.{Row, column}
+use Rattle.sqlite_value.specs.{declared.value.Value.TheVariants.Null, declared.value.Value.TheVariants.Int, declared.value.Value.TheVariants.Real, declared.value.Value.TheVariants.Text, declared.value.Value.TheVariants.Blob, declared.value.Value.Value, Order.Row, Order.column}
 use Rattle.sqlite.specs.declared.error.{Error.Error, Error.TheVariants.SqliteFailure}
 use Rattle.sqlite.specs.declared.error.ErrorCode.TheVariants as code
 use Rattle.s2_cover.specs.declared.spans.Span.{Span}
-use Rattle.volume4d.specs.{Footprint.footprint_bytes, Volume.Block, Volume.is_area, Volume.Point, Slab.slabs_have, Slab.top_held}
-use Rattle.volume4d.specs.declared.slab.{Slab.Slab, Held.Held}
-use Rattle.desk_rules.specs.declared.plan.PlanRow.{PlanRow}
-use Rattle.desk_rules.specs.Conflict.{at_least}
-use Rattle.desk_store.specs.World.{Filed, IsValidVolume, IsId, IsPlan, HaveLevel, World}
-use Rattle.desk_store.specs.declared.fault.{StoreFault.StoreFault, StoreFault.TheVariants.Store}
-use Rattle.desk_sql.specs.Rows.{joined, columns_from_first, is_at_least, passes_filter, is_rival_from, is_others_from, is_plan_span}
-use Rattle.desk_sql.specs.declared.reading.rivals.SpanFilter.{SpanFilter}
-use Rattle.live_index.specs.declared.near.{PlanKey.PlanKey, Wanted.Wanted}
-use Rattle.live_index.specs.Live.{held_but}
-use Rattle.row_codec.specs.Tables.{id_text, usage_number, aircraft_number, row_of_plan, volume_rows_from, area_rows}
-use Rattle.row_codec.specs.declared.values.PlanHead.{PlanHead}
+use Rattle.volume4d.specs.{Footprint.footprint_bytes, Volume.Block, Volume.is_area, Volume.Point, Slab.slabs_have, Slab.top_held, declared.slab.Slab.Slab, declared.slab.Held.Held}
+use Rattle.desk_rules.specs.{declared.plan.PlanRow.PlanRow, Conflict.at_least}
+use Rattle.desk_store.specs.{World.Filed, World.IsValidVolume, World.IsId, World.IsPlan, World.HaveLevel, World.World, declared.fault.StoreFault.StoreFault, declared.fault.StoreFault.TheVariants.Store}
+use Rattle.desk_sql.specs.{Rows.joined, Rows.columns_from_first, Rows.is_at_least, Rows.passes_filter, Rows.is_rival_from, Rows.is_others_from, Rows.is_plan_span, declared.reading.rivals.SpanFilter.SpanFilter}
+use Rattle.live_index.specs.{declared.near.PlanKey.PlanKey, declared.near.Wanted.Wanted, Live.held_but}
+use Rattle.row_codec.specs.{Tables.id_text, Tables.usage_number, Tables.aircraft_number, Tables.row_of_plan, Tables.volume_rows_from, Tables.area_rows, declared.values.PlanHead.PlanHead}
 
 -- the five columns from `at` on, of which `lower` is the first, are those of a volume
 pub record IsVolumeAt (row : Row) (at : ℕ) (v : Block) : Type 0 where

@@ -1,20 +1,14 @@
 -- How long the spans of plans are, and how many there are.
 use Rattle.std.specs.Prelude.{◌≡◌, ℕ, ◌+◌, ◌≤◌, ◌⊎◌, ◌==◌, ◌&&◌, nat_le, ℤ, pos, Bool, false, List, Option, Some, None, MatchBool, IfSome, IsTrue, ⊤, slice_get, length, ◌<◌, ◌*◌, ◌^◌}
 use Rattle.std.specs.List.{AllByRecursion, list_any, filter, sum_by}
-use Rattle.sqlite_value.specs.declared.value.Value.TheVariants.{Int}
-use Rattle.sqlite_value.specs.Order.{Row, column}
-use Rattle.s2_cover.specs.declared.spans.Span.{Span}
-use Rattle.s2_cover.specs.Covers.{IsRanges}
-use Rattle.volume4d.specs.declared.slab.Slab.{Slab}
-use Rattle.volume4d.specs.Volume.{shape_positions, Block}
-use Rattle.desk_rules.specs.declared.plan.PlanRow.{PlanRow}
-use Rattle.desk_rules.specs.Outcome.{is_live, row_cells, row_spans}
-use Rattle.desk_store.specs.World.{Filed, World, is_by}
-use Rattle.desk_store.specs.declared.change.{Change.Change, Change.TheVariants.Enrol, Change.TheVariants.Put, Change.TheVariants.Close, Change.TheVariants.Clear}
+use Rattle.sqlite_value.specs.{declared.value.Value.TheVariants.Int, Order.Row, Order.column}
+use Rattle.s2_cover.specs.{declared.spans.Span.Span, Covers.IsRanges}
+use Rattle.volume4d.specs.{declared.slab.Slab.Slab, Volume.shape_positions, Volume.Block}
+use Rattle.desk_rules.specs.{declared.plan.PlanRow.PlanRow, Outcome.is_live, Outcome.row_cells, Outcome.row_spans}
+use Rattle.desk_store.specs.{World.Filed, World.World, World.is_by, declared.change.Change.Change, declared.change.Change.TheVariants.Enrol, declared.change.Change.TheVariants.Put, declared.change.Change.TheVariants.Close, declared.change.Change.TheVariants.Clear}
 use Rattle.live_index.specs.Live.{AreKeptOnce}
 use Rattle.operator_index.specs.Roll.{IsIndexOf}
-use Rattle.row_codec.specs.declared.{span_bounds.SpanBounds.SpanBounds, known.MemoryIndex.MemoryIndex, counting.Counted.Counted, counting.Counted.TheVariants.Spans, counting.Counted.TheVariants.Cells}
-use Rattle.row_codec.specs.Tables.{AreSpanRows}
+use Rattle.row_codec.specs.{declared.span_bounds.SpanBounds.SpanBounds, declared.known.MemoryIndex.MemoryIndex, declared.counting.Counted.Counted, declared.counting.Counted.TheVariants.Spans, declared.counting.Counted.TheVariants.Cells, Tables.AreSpanRows}
 
 -- the last leaf of a span is at most so many positions after its first
 abbrev pub IsBoundedBy : ℕ → Span → Type 0

@@ -3,18 +3,13 @@ use Rattle.std.specs.Prelude.{◌≡◌, ℕ, ◌+◌, pos, List, [], ◌∷◌,
 use Rattle.std.specs.{List.flat_map, List.AllByRecursion, Int.w64, Int.to_be_bytes, List.Sorted.IsPermutation, Ordering.is_lt, Ordering.is_eq}
 use Rattle.std.specs.declared.cmp.Ordering.{Ordering}
 use Rattle.uuid.specs.Text.{hyphenated_text, lower}
-use Rattle.sqlite_value.specs.Order.{Row, column}
-use Rattle.sqlite_value.specs.declared.value.{Value.TheVariants.Int, Value.TheVariants.Text, Value.TheVariants.Null, Value.TheVariants.Real, Value.TheVariants.Blob, Value.Value}
-use Rattle.s2_cover.specs.declared.spans.Span.{Span}
-use Rattle.s2_cover.specs.Covers.{IsRanges, canonical_list}
-use Rattle.volume4d.specs.{Footprint.footprint_bytes, Volume.Shape, Volume.shape_positions, Volume.Block, Volume.WindowParts}
-use Rattle.volume4d.specs.declared.slab.Slab.{Slab}
-use Rattle.desk_rules.specs.declared.{words.Usage.Usage, words.Aircraft.Aircraft, plan.PlanRow.PlanRow}
+use Rattle.sqlite_value.specs.{Order.Row, Order.column, declared.value.Value.TheVariants.Int, declared.value.Value.TheVariants.Text, declared.value.Value.TheVariants.Null, declared.value.Value.TheVariants.Real, declared.value.Value.TheVariants.Blob, declared.value.Value.Value}
+use Rattle.s2_cover.specs.{declared.spans.Span.Span, Covers.IsRanges, Covers.canonical_list}
+use Rattle.volume4d.specs.{Footprint.footprint_bytes, Volume.Shape, Volume.shape_positions, Volume.Block, Volume.WindowParts, declared.slab.Slab.Slab}
+use Rattle.desk_rules.specs.{declared.words.Usage.Usage, declared.words.Aircraft.Aircraft, declared.plan.PlanRow.PlanRow, Outcome.is_live, Limits.max_priority, Limits.is_operator_name, Limits.max_plans}
 use Rattle.desk_rules.specs.declared.words.Usage.TheVariants as usage
 use Rattle.desk_rules.specs.declared.words.Aircraft.TheVariants as aircraft
-use Rattle.desk_rules.specs.{Outcome.is_live, Limits.max_priority, Limits.is_operator_name, Limits.max_plans}
-use Rattle.desk_store.specs.World.{Filed, Listed, World, IsPlan, IsListed, text_cmp, rows_by}
-use Rattle.desk_store.specs.declared.fault.StoreFault.{StoreFault}
+use Rattle.desk_store.specs.{World.Filed, World.Listed, World.World, World.IsPlan, World.IsListed, World.text_cmp, World.rows_by, declared.fault.StoreFault.StoreFault}
 use Rattle.desk_store.specs.declared.fault.StoreFault.TheVariants as store
 use Rattle.desk_sql.specs.Rows as sql
 use Rattle.desk_sql.specs.Rows.{Tables}

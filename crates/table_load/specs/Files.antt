@@ -1,24 +1,18 @@
 -- What a store over files begins with, why files are refused, and what a crash leaves of them.
 use Rattle.std.specs.Prelude.{◌⊎◌, List, ℕ, ◌≡◌, IsTrue, ⊤, ◌≢◌, ◌≤◌, true, [], Result, Ok, Err, IfSome, Option, Some, None}
 use Rattle.sqlite_disk.specs.declared.Disk as disk
-use Rattle.sqlite_disk.specs.Events.{Event, HasCollision}
-use Rattle.sqlite_store.specs.declared.store.FileStore.{FileStore}
-use Rattle.sqlite_store.specs.{FileStore.files, FileStore.view, Unopened.state_of}
-use Rattle.sqlite.specs.{Held.Held, Held.AreDatabases, Held.IsNew, Held.state, State.HasCleanDisk, Files.file_state, Files.image_of, Files.IsCleanLeft, Files.LeavesFiles, Files.SaysSums, Files.over_files, Files.IsBlankAs, Files.IsOpened, Start.FindsIn, Tree.Trees, Schema.Schema, Effect.Database, Effect.IsDatabase}
-use Rattle.sqlite_disk.specs.declared.Files.{Files}
+use Rattle.sqlite_disk.specs.{Events.Event, Events.HasCollision, declared.Files.Files}
+use Rattle.sqlite_store.specs.{declared.store.FileStore.FileStore, FileStore.files, FileStore.view, Unopened.state_of}
+use Rattle.sqlite.specs.{Held.Held, Held.AreDatabases, Held.IsNew, Held.state, State.HasCleanDisk, Files.file_state, Files.image_of, Files.IsCleanLeft, Files.LeavesFiles, Files.SaysSums, Files.over_files, Files.IsBlankAs, Files.IsOpened, Start.FindsIn, Tree.Trees, Schema.Schema, Effect.Database, Effect.IsDatabase, declared.file.Leftover.Leftover}
 use Rattle.sqlite_wal.specs.{Files.outcomes, Recovery.Image}
 use Rattle.sqlite_pool.specs.Stored.{is_summed, stored_size}
 use Rattle.sqlite_store.specs.FileStore as file
-use Rattle.sqlite.specs.declared.file.Leftover.{Leftover}
 use Rattle.sqlite.specs.declared.file.Leftover.TheVariants as left
-use Rattle.sqlite_trees.specs.View.{doubt as doubt_of}
-use Rattle.sqlite_trees.specs.declared.store.Store.{Ghosts}
+use Rattle.sqlite_trees.specs.{View.doubt as doubt_of, declared.store.Store.Ghosts}
 use Rattle.desk_store.specs.World.{World, LeavesOnly, IsContent}
-use Rattle.desk_sql.specs.{Effects.IsOpenIfClean, Effects.StaysShown, Rows.IsDesk, Rows.tables_of, Statements.HasDiskFailed, Statements.IsMisnumbered}
-use Rattle.desk_sql.specs.declared.opening.finding.TablesPresent.{TablesPresent}
+use Rattle.desk_sql.specs.{Effects.IsOpenIfClean, Effects.StaysShown, Rows.IsDesk, Rows.tables_of, Statements.HasDiskFailed, Statements.IsMisnumbered, declared.opening.finding.TablesPresent.TablesPresent}
 use Rattle.row_codec.specs.Tables.{AreTables}
-use Rattle.table_load.specs.declared.{fault.OpenFault.OpenFault, fault.OpenFault.TheVariants.NotADesk, fault.OpenFault.TheVariants.OldSchema, fault.OpenFault.TheVariants.OutOfMemory, path.NotOpened.NotOpened}
-use Rattle.table_load.specs.{Opening.BeginsWith, Opening.ShowsNoDesk, Opening.ShowsOldRows, Opening.BlamesDisk, Opening.IsPart, Opening.IsNoDesk, Opening.HasOldRows, Moving.BeginsMoved, Moving.KeepsRows, Moving.ShowsNoContent}
+use Rattle.table_load.specs.{declared.fault.OpenFault.OpenFault, declared.fault.OpenFault.TheVariants.NotADesk, declared.fault.OpenFault.TheVariants.OldSchema, declared.fault.OpenFault.TheVariants.OutOfMemory, declared.path.NotOpened.NotOpened, Opening.BeginsWith, Opening.ShowsNoDesk, Opening.ShowsOldRows, Opening.BlamesDisk, Opening.IsPart, Opening.IsNoDesk, Opening.HasOldRows, Moving.BeginsMoved, Moving.KeepsRows, Moving.ShowsNoContent}
 
 -- if the disk has returned what was written so far, each later read is tested
 abbrev pub IsGuarded : {D : Type 0} {g : disk.Ghosts D} → Held (FileStore D g) → Type 0

@@ -8,11 +8,9 @@ use Rattle.s2_cover.specs.Covers.{canonical_list}
 use Rattle.volume4d.specs.Volume.{Shape, cells, rectangle, shape_positions, Block}
 use Rattle.desk_rules.specs.Outcome.{is_live}
 use Rattle.desk_store.specs.World.{Filed, Listed, World, IsContent}
-use Rattle.desk_sql.specs.declared.opening.finding.TablesPresent.{TablesPresent}
-use Rattle.desk_sql.specs.{Rows.IsDesk, Rows.IsMadeTo, Rows.Tables, Rows.Lists, Rows.tables_of, Rows.tables_at, Rows.has_old_rows, Effects.ShowsAsBefore, Effects.HasOthers, Schema.blank_schema}
+use Rattle.desk_sql.specs.{declared.opening.finding.TablesPresent.TablesPresent, Rows.IsDesk, Rows.IsMadeTo, Rows.Tables, Rows.Lists, Rows.tables_of, Rows.tables_at, Rows.has_old_rows, Effects.ShowsAsBefore, Effects.HasOthers, Schema.blank_schema}
 use Rattle.row_codec.specs.{Tables.operator_rows, Tables.plan_rows, Tables.area_rows, Tables.volume_rows, Tables.area_covers, Tables.cover_rows, Tables.ArePlanSpanRows, Tables.AreSpanRows, SpanBounds.HaveSpanRows, SpanBounds.IsMostCells, SpanBounds.IsMostSpans}
-use Rattle.table_load.specs.Opening.{IsDatabaseOf, AreParts, BeginsWith, HasNoContent, IsContentOf, AreNoContent}
-use Rattle.table_load.specs.declared.looking.DbStats.{DbStats}
+use Rattle.table_load.specs.{Opening.IsDatabaseOf, Opening.AreParts, Opening.BeginsWith, Opening.HasNoContent, Opening.IsContentOf, Opening.AreNoContent, declared.looking.DbStats.DbStats}
 
 -- ---- schema 1
 -- the most volumes of a plan, and the most cells of a rectangle's cover, in schema 1

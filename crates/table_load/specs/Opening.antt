@@ -1,20 +1,15 @@
 -- What all rows of the schema's tables stand for, and what a store over them begins with.
 use Rattle.std.specs.Prelude.{◌≡◌, ◌↔◌, Bool, List, map, IsTrue, false, None, ◌≢◌, ℕ, ◌⊎◌, true, [], ◌∷◌, codes, if◌then◌else◌, IsSome, ◌<◌, ◌^◌, length, IsPermutation}
 use Rattle.std.specs.{List.AllByRecursion, List.Sorted.IsStrictlySortedBy}
-use Rattle.sqlite_value.specs.declared.value.Value.TheVariants.{Blob}
-use Rattle.sqlite_value.specs.Order.{Row, column}
+use Rattle.sqlite_value.specs.{declared.value.Value.TheVariants.Blob, Order.Row, Order.column}
 use Rattle.sqlite_trees.specs.declared.store.Store.{Ghosts}
-use Rattle.sqlite.specs.{State.HasCleanDisk, Held.Held, Held.state, Effect.Database}
-use Rattle.sqlite.specs.declared.error.{Error.Error, Error.TheVariants.SqliteFailure}
+use Rattle.sqlite.specs.{State.HasCleanDisk, Held.Held, Held.state, Effect.Database, declared.error.Error.Error, declared.error.Error.TheVariants.SqliteFailure}
 use Rattle.sqlite.specs.declared.error.ErrorCode.TheVariants as code
 use Rattle.volume4d.specs.Volume.{Block}
 use Rattle.desk_store.specs.World.{IsValidVolume, World, IsContent, Filed, Listed, listed_cmp, filed_cmp}
-use Rattle.desk_sql.specs.{Rows.volume_part, Rows.IsDesk, Rows.tables_of, Rows.IsMadeTo, Rows.Tables, Rows.Lists, Rows.tables_at, Rows.has_old_rows, Rows.ListVolumes, Schema.blank_schema, Effects.HasOthers, Effects.ShowsAsBefore, Statements.HasDiskFailed, Statements.IsMisnumbered, Changing.HasKey, Changing.IsShort, Changing.LacksKey, Changing.HasSmallSpans}
-use Rattle.desk_sql.specs.declared.opening.finding.{TablesPresent.TablesPresent, TablesPresent.TheVariants.All, TablesPresent.TheVariants.Packed}
+use Rattle.desk_sql.specs.{Rows.volume_part, Rows.IsDesk, Rows.tables_of, Rows.IsMadeTo, Rows.Tables, Rows.Lists, Rows.tables_at, Rows.has_old_rows, Rows.ListVolumes, Schema.blank_schema, Effects.HasOthers, Effects.ShowsAsBefore, Statements.HasDiskFailed, Statements.IsMisnumbered, Changing.HasKey, Changing.IsShort, Changing.LacksKey, Changing.HasSmallSpans, declared.opening.finding.TablesPresent.TablesPresent, declared.opening.finding.TablesPresent.TheVariants.All, declared.opening.finding.TablesPresent.TheVariants.Packed}
 use Rattle.desk_changes.specs.RowChanges.{AreNewSpans, AreNewVolumes, HasRoomFor, HaveOwnKeys}
-use Rattle.row_codec.specs.RowsRead.{IsVolumeAt}
-use Rattle.row_codec.specs.Tables.{canon_bytes, AreTables, operator_rows, plan_rows, volume_rows, cover_rows, AreSpanRows, AreOperatorRows, ArePlanRows, HaveOperatorsAndRoom, IsFiled, row_of_operator}
-use Rattle.row_codec.specs.declared.exact.RowFault.{RowFault}
+use Rattle.row_codec.specs.{RowsRead.IsVolumeAt, Tables.canon_bytes, Tables.AreTables, Tables.operator_rows, Tables.plan_rows, Tables.volume_rows, Tables.cover_rows, Tables.AreSpanRows, Tables.AreOperatorRows, Tables.ArePlanRows, Tables.HaveOperatorsAndRoom, Tables.IsFiled, Tables.row_of_operator, declared.exact.RowFault.RowFault}
 use Rattle.row_codec.specs.declared.exact.RowFault.TheVariants as row
 use Rattle.table_load.specs.declared.fault.{OpenFault.OpenFault, OpenFault.TheVariants.OutOfMemory, OpenFault.TheVariants.Store, OpenFault.TheVariants.NotADesk, OpenFault.TheVariants.OldSchema}
 

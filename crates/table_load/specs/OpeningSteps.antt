@@ -2,24 +2,18 @@
 use Rattle.std.specs.Prelude.{List, ◌≡◌, ◌≢◌, ◌≤◌, ℕ, false, true, None, IsTrue, Result, IfOk, IfErr, OnOk, OnErr, ◌⊎◌, Bool, [], ◌∷◌, Option, Some, IfSome, codes}
 use Rattle.std.specs.{List.AllByRecursion, List.Sorted.IsStrictlySortedBy}
 use Rattle.sqlite_value.specs.Order.{Row}
-use Rattle.sqlite_trees.specs.declared.store.Store.{Ghosts}
-use Rattle.sqlite_trees.specs.View.{doubt as doubt_of}
+use Rattle.sqlite_trees.specs.{declared.store.Store.Ghosts, View.doubt as doubt_of}
 use Rattle.sqlite.specs.{State.HasCleanDisk, State.KeepsCommit, Held.Held, Held.state, Tree.Trees, Schema.Schema, Effect.Database, Effect.IsDatabase, Files.file_state, Files.over_files}
 use Rattle.sqlite_disk.specs.declared.Disk as disk
 use Rattle.sqlite_wal.specs.Recovery.{Image}
 use Rattle.sqlite_store.specs.declared.store.FileStore.{FileStore}
 use Rattle.desk_rules.specs.Limits.{max_priority, is_operator_name}
 use Rattle.desk_store.specs.World.{World, IsId, Filed, Listed, listed_cmp, filed_cmp}
-use Rattle.desk_sql.specs.declared.opening.finding.{TablesPresent.TablesPresent, TablesPresent.TheVariants.Nothing}
+use Rattle.desk_sql.specs.{declared.opening.finding.TablesPresent.TablesPresent, declared.opening.finding.TablesPresent.TheVariants.Nothing, Effects.Holds, Effects.IsOpenIfClean, Effects.Makes, Effects.OnlyReads, Effects.Remembers, Schema.has_table, Queries.WasOpen, Rows.IsMadeTo, Rows.Tables, Rows.tables_at, Rows.IsDesk, Rows.tables_of, Rows.has_old_rows, Rows.Lists}
 use Rattle.desk_sql.specs.declared.opening.numbers.DeskTable.TheVariants as desk
-use Rattle.desk_sql.specs.{Effects.Holds, Effects.IsOpenIfClean, Effects.Makes, Effects.OnlyReads, Effects.Remembers, Schema.has_table, Queries.WasOpen, Rows.IsMadeTo, Rows.Tables, Rows.tables_at, Rows.IsDesk, Rows.tables_of, Rows.has_old_rows, Rows.Lists}
-use Rattle.row_codec.specs.declared.exact.RowFault.{RowFault}
+use Rattle.row_codec.specs.{declared.exact.RowFault.RowFault, Tables.AreOperatorRows, Tables.ArePlanRows, Tables.HaveOperatorsAndRoom, Tables.AreSpanRows, Tables.row_of_plan}
 use Rattle.row_codec.specs.declared.exact.RowFault.TheVariants as row
-use Rattle.row_codec.specs.Tables.{AreOperatorRows, ArePlanRows, HaveOperatorsAndRoom, AreSpanRows, row_of_plan}
-use Rattle.table_load.specs.declared.{spans.SpanCheck.SpanCheck, fault.OpenFault.OpenFault, fault.OpenFault.TheVariants.NotADesk, fault.OpenFault.TheVariants.OldSchema}
-use Rattle.table_load.specs.{SpanChecks.HasChecked, Opening.AreNoContent, Opening.BlamesReading, Opening.BlamesDatabase, Opening.BlamesDisk, Opening.WasCompleted, Opening.WasOrdered, Opening.Stands, Opening.AreParts, Opening.AreSortedHeads, Opening.IsNoDesk}
-use Rattle.table_load.specs.{Moving.AreNoOldContent, Moving.HasAllTables, Moving.WasMoved, Moving.reported_count, Moving.IsOldContentOf, Moving.HoldsContent, Moving.AreSortedOld, Moving.HasNoNewRows, Moving.IsOldArea, Files.IsSettledAt, Files.FindsFirst, Files.HasWorld, Files.Finds}
-use Rattle.table_load.specs.declared.naming.{InvalidPart.InvalidPart, InvalidPart.TheVariants.NoTable, InvalidPart.TheVariants.OtherTables, InvalidPart.TheVariants.BothSchemas, InvalidPart.TheVariants.Operator, InvalidPart.TheVariants.Plan, InvalidPart.TheVariants.Plans, InvalidPart.TheVariants.Volume, InvalidPart.TheVariants.Cover, InvalidPart.TheVariants.Span, InvalidPart.TheVariants.OldVolume, InvalidPart.TheVariants.OldSpan, InvalidPart.TheVariants.OldPlan}
+use Rattle.table_load.specs.{declared.spans.SpanCheck.SpanCheck, declared.fault.OpenFault.OpenFault, declared.fault.OpenFault.TheVariants.NotADesk, declared.fault.OpenFault.TheVariants.OldSchema, SpanChecks.HasChecked, Opening.AreNoContent, Opening.BlamesReading, Opening.BlamesDatabase, Opening.BlamesDisk, Opening.WasCompleted, Opening.WasOrdered, Opening.Stands, Opening.AreParts, Opening.AreSortedHeads, Opening.IsNoDesk, Moving.AreNoOldContent, Moving.HasAllTables, Moving.WasMoved, Moving.reported_count, Moving.IsOldContentOf, Moving.HoldsContent, Moving.AreSortedOld, Moving.HasNoNewRows, Moving.IsOldArea, Files.IsSettledAt, Files.FindsFirst, Files.HasWorld, Files.Finds, declared.naming.InvalidPart.InvalidPart, declared.naming.InvalidPart.TheVariants.NoTable, declared.naming.InvalidPart.TheVariants.OtherTables, declared.naming.InvalidPart.TheVariants.BothSchemas, declared.naming.InvalidPart.TheVariants.Operator, declared.naming.InvalidPart.TheVariants.Plan, declared.naming.InvalidPart.TheVariants.Plans, declared.naming.InvalidPart.TheVariants.Volume, declared.naming.InvalidPart.TheVariants.Cover, declared.naming.InvalidPart.TheVariants.Span, declared.naming.InvalidPart.TheVariants.OldVolume, declared.naming.InvalidPart.TheVariants.OldSpan, declared.naming.InvalidPart.TheVariants.OldPlan}
 use Rattle.table_load.specs.declared.fault.OpenFault.TheVariants as opening
 
 -- the check has compared these rows with its plans

@@ -5,8 +5,7 @@ use Rattle.sqlite_value.specs.Order.{Row}
 use Rattle.volume4d.specs.declared.slab.Slab.{Slab}
 use Rattle.desk_rules.specs.Outcome.{is_live}
 use Rattle.desk_store.specs.World.{Filed}
-use Rattle.row_codec.specs.{Tables.slab_row, Tables.AreSpanRowsFrom, Tables.AreSpanRows, SpanBounds.IsKnownRow}
-use Rattle.row_codec.specs.declared.span_bounds.SpanBounds.{SpanBounds}
+use Rattle.row_codec.specs.{Tables.slab_row, Tables.AreSpanRowsFrom, Tables.AreSpanRows, SpanBounds.IsKnownRow, declared.span_bounds.SpanBounds.SpanBounds}
 
 -- rows are those of the plan's slabs that are left: `slabs`, of the volume at `shown`, and then those of the
 -- volumes from `place` on

@@ -1,18 +1,23 @@
 -- A desk's files while a command runs and once it has ended, and the exit status of invalid arguments.
 use Rattle.std.specs.Prelude.{◌≡◌, ◌≢◌, ◌⊎◌, ◌&&◌, ℕ, Bool, true, false, if◌then◌else◌, is_ok, Option, None, Some, Result, Ok, Err, IfOk, IfErr, List, [], ◌∷◌, option_map, string_bytes, unwrap_or}
 use Rattle.std.specs.Option.{IsSomeAnd}
-use Rattle.sqlite_disk.specs.{declared.Disk as disk, declared.calls.Calls as calls, declared.modelled.Modelled.Modelled, declared.start.Start.Ghosts, Events.Event, Events.HasCollision, Events.replay, Modelled.start_of}
+use Rattle.sqlite_disk.specs.declared.Disk as disk
 use Rattle.sqlite_wal.specs.Reads.{AreClean}
 use Rattle.sqlite_store.specs.{declared.store.FileStore.FileStore, FileStore.files}
 use Rattle.sqlite.specs.{Closing.IsCopied, Files.file_state}
+use Rattle.sqlite_disk.specs.declared.calls.Calls as calls
+use Rattle.sqlite_disk.specs.{declared.modelled.Modelled.Modelled, declared.start.Start.Ghosts, Events.Event, Events.HasCollision, Events.replay, Modelled.start_of}
 use Rattle.sqlite_std_file.specs.declared.host.Host.{Host}
 use Rattle.sqlite_trees.specs.View.{doubt}
-use Rattle.clap.specs.{Values.kind_of, declared.error.Error.Error, declared.error.kind.ErrorKind.TheVariants as kind}
+use Rattle.clap.specs.{Values.kind_of, declared.error.Error.Error}
+use Rattle.clap.specs.declared.error.kind.ErrorKind.TheVariants as kind
 use Rattle.desk_store.specs.{Changes.IsHonest, declared.fault.StoreFault.StoreFault, declared.fault.StoreFault.TheVariants.Store}
 use Rattle.desk_run.specs.Verdicts.{Parts}
 use Rattle.desk_wire.specs.Streams.{Course}
 use Rattle.desk_tables.specs.Store.{IsLeftUnclosed, Shown}
-use Rattle.desk_cli.specs.{declared.failure.ErrorCode.ErrorCode, declared.line.WordsFault.WordsFault, declared.line.DeskArgs.DeskArgs, declared.line.Enrolment.Enrolment, declared.failure.ErrorCode.TheVariants as failure, Exits.Ending, Exits.FailsWith, Exits.IsSilent, Exits.failure_status, Lines.file_of, declared.line.WordsFault.TheVariants as fault}
+use Rattle.desk_cli.specs.{declared.failure.ErrorCode.ErrorCode, declared.line.WordsFault.WordsFault, declared.line.DeskArgs.DeskArgs, declared.line.Enrolment.Enrolment, Exits.Ending, Exits.FailsWith, Exits.IsSilent, Exits.failure_status, Lines.file_of}
+use Rattle.desk_cli.specs.declared.failure.ErrorCode.TheVariants as failure
+use Rattle.desk_cli.specs.declared.line.WordsFault.TheVariants as fault
 use Rattle.host_files.specs.{Paths.AreAtPaths, Paths.Look, Paths.IsUnheldAt, declared.paths.LocalOpenPaths.LocalOpenPaths}
 use Rattle.uss_desk.specs.declared.{watching.CloseReport.CloseReport, recording.PendingRecovery.PendingRecovery, recording.JournalFolder.JournalFolder, session.Session.Session}
 

@@ -12,8 +12,11 @@ use Rattle.desk_wire.specs.Streams.{course, Passage}
 use Rattle.desk_replay.specs.Running.{IsReplayed, IsUnplayed}
 use Rattle.table_load.specs.Files.{MayLeave}
 use Rattle.desk_tables.specs.Store.{Shown}
-use Rattle.desk_cli.specs.{declared.failure.ErrorCode.ErrorCode, declared.line.Line.Line, declared.line.Enrolment.Enrolment, declared.line.PlayArgs.PlayArgs, declared.failure.ErrorCode.TheVariants as failure, declared.line.Line.TheVariants as line, Exits.Ending}
-use Rattle.desk_host.specs.{declared.folders.JournalFile.JournalFile, declared.folders.JournalError.JournalError, declared.folders.JournalError.TheVariants as unkept, Operators.journal_error_text}
+use Rattle.desk_cli.specs.{declared.failure.ErrorCode.ErrorCode, declared.line.Line.Line, declared.line.Enrolment.Enrolment, declared.line.PlayArgs.PlayArgs, Exits.Ending}
+use Rattle.desk_cli.specs.declared.failure.ErrorCode.TheVariants as failure
+use Rattle.desk_cli.specs.declared.line.Line.TheVariants as line
+use Rattle.desk_host.specs.{declared.folders.JournalFile.JournalFile, declared.folders.JournalError.JournalError, Operators.journal_error_text}
+use Rattle.desk_host.specs.declared.folders.JournalError.TheVariants as unkept
 use Rattle.uss_desk.specs.{declared.recording.FileError.FileError, declared.recording.LocalJournal.LocalJournal, declared.recording.PendingRecovery.PendingRecovery, declared.rolls.NotedOperators.NotedOperators, OpenedFor.load_world, OpenedFor.IsSound}
 use Rattle.desk_recording.specs.{declared.tail.Tail.Tail, declared.tail.TailEnd.TailEnd, declared.tail.TailEnd.TheVariants.End, declared.tail.TailEnd.TheVariants.Short, declared.tail.TailEnd.TheVariants.Damaged, Recovering.Recovers, Recovering.Undone, Recovering.missing_enrolments, Recovering.undone, Tail.unanswered_in, Inputs.InputOutside, Inputs.IsPlayRecorded, Inputs.IsRecordedKept, Inputs.IsUnrecorded}
 

@@ -10,12 +10,15 @@ use Rattle.desk_rules.specs.Outcome.{no_terms}
 use Rattle.desk_store.specs.{World.LeavesOnly, World.Listed, World.World, Changes.IsHonest, Changes.Remembers}
 use Rattle.desk_run.specs.Verdicts.{DeskWorld, Parts, with_content, world_of}
 use Rattle.desk_wire.specs.Streams.{Course}
-use Rattle.table_load.specs.{Files.AreNotMoved, Files.AreRefused, Files.OpensIn, Files.OpensMoved, Files.IsGuarded, Files.MayLeave, declared.fault.OpenFault.OpenFault, declared.fault.OpenFault.TheVariants as opening}
+use Rattle.table_load.specs.{Files.AreNotMoved, Files.AreRefused, Files.OpensIn, Files.OpensMoved, Files.IsGuarded, Files.MayLeave, declared.fault.OpenFault.OpenFault}
+use Rattle.table_load.specs.declared.fault.OpenFault.TheVariants as opening
 use Rattle.desk_tables.specs.Store.{Shown}
-use Rattle.desk_cli.specs.{declared.failure.ErrorCode.ErrorCode, declared.line.Database.Database, declared.line.Database.TheVariants.InMemory, declared.line.Database.TheVariants.File, declared.line.Enrolment.Enrolment, declared.line.Line.Line, declared.failure.ErrorCode.TheVariants as failure, Exits.Ending, Exits.FailsWith}
+use Rattle.desk_cli.specs.{declared.failure.ErrorCode.ErrorCode, declared.line.Database.Database, declared.line.Database.TheVariants.InMemory, declared.line.Database.TheVariants.File, declared.line.Enrolment.Enrolment, declared.line.Line.Line, Exits.Ending, Exits.FailsWith}
+use Rattle.desk_cli.specs.declared.failure.ErrorCode.TheVariants as failure
 use Rattle.desk_program.specs.{Keeping.IsLineKept, Keeping.Outside, Keeping.IsCarriedOut, Keeping.IsUnopened, Enrolling.IsCountPrinted}
 use Rattle.desk_admin.specs.{FilesReported.FailsOver, FilesReported.IsUnreadFor, declared.unopened.OpenError.OpenError}
-use Rattle.uss_desk.specs.{declared.opening.Opened.Opened, declared.rolls.NotedOperators.NotedOperators, declared.opening.Opened.TheVariants as opened, FilesLeft.Past, FilesLeft.IsTrueOrCollided}
+use Rattle.uss_desk.specs.{declared.opening.Opened.Opened, declared.rolls.NotedOperators.NotedOperators, FilesLeft.Past, FilesLeft.IsTrueOrCollided}
+use Rattle.uss_desk.specs.declared.opening.Opened.TheVariants as opened
 
 -- the error code is `Memory`, the only one of opening a desk in memory
 abbrev pub IsMemory : ErrorCode → Type 0

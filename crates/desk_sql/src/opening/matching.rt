@@ -258,14 +258,14 @@ fn refer_elsewhere(references: &[Reference]) -> bool
 fn are_tables_apart(tables: &[Table], last: u32) -> bool
     ensures { result ≡ are_tables_apart last tables.now }
 {
-    match tables {
-        [] => true,
-        [table, others @ ..] => {
-            table.tree > last
-                && refer_elsewhere(table.references.as_slice())
-                && are_tables_apart(others, table.tree)
+    let mut before = last;
+    'tables: for table in tables {
+        if table.tree <= before || !refer_elsewhere(table.references.as_slice()) {
+            return false;
         }
+        before = table.tree;
     }
+    true
 }
 
 /// Whether none of these indexes is on one of the desk's tables.
