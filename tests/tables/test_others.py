@@ -47,7 +47,7 @@ def others_in(path: str) -> dict[str, tuple[str, Any]]:
     with contextlib.closing(sqlite3.connect(path)) as file:
         listed = file.execute("SELECT name, sql, type FROM sqlite_schema ORDER BY rowid").fetchall()[14:]
         return {
-            name: (text, file.execute(f"SELECT * FROM {name}").fetchall() if kind != "index" else None)
+            name: (text, file.execute(f"SELECT * FROM {name}").fetchall() if kind in ("table", "view") else None)
             for name, text, kind in listed
         }
 
