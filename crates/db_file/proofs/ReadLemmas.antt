@@ -1,11 +1,9 @@
 -- Bytes that are read into a part of a room.
-use Rattle.std.proofs.Common.{◌≡◌, ℕ, ◌+◌, ◌-◌, ◌*◌, ◌≤◌, List, ◌++◌, arith, length, take, sym, ap, ◌∙◌, subst, refl, le_refl, drop_at, length-take-le, length-append, Option, None, Some, Ok}
+use Rattle.std.proofs.Common.{◌≡◌, ℕ, ◌+◌, ◌-◌, ◌*◌, ◌≤◌, List, ◌++◌, arith, length, take, sym, ap, ◌∙◌, subst, refl, le_refl, drop_at, length-take-le, length-append, Option, None, Some}
 use Rattle.std.proofs.lemmas.Slice.{take-put_mid_below}
-use Rattle.std.specs.Io.KnownBytes.{Consumes, Keeps}
-use Rattle.std.proofs.KnownBytes.{Consumes-trans, Consumes-kept}
-use Rattle.db_file.specs.Wal.{IsLastRead, HasRead}
-use Rattle.db_file.specs.declared.reads.LastRead.{LastRead}
-use Rattle.db_file.specs.declared.reads.LastRead.TheVariants.{Failed, Passed}
+use Rattle.std.specs.Io.KnownBytes.{Consumes}
+use Rattle.std.proofs.KnownBytes.{Consumes-trans}
+use Rattle.db_file.specs.Wal.{HasRead}
 use borrow.Rule.Slice.PartMut.{put_mid, post_of}
 use lib.Seq.{take-add, take-append-le}
 
@@ -45,23 +43,6 @@ module _ (from : ℕ) (old part : List ℕ) (a b c : Option (List ℕ)) (before 
         within = omega (arith, room_left.1);
         taken = subst (Consumes a c) (joined count fits) (Consumes-trans a b c _ _ before.taken taken);
       }
-
-  -- none were
-  pub none_taken : Keeps b c → Reached a c (put_mid from (length old - from) old part) from
-  none_taken kept =
-      record {
-        within = room_left.0;
-        taken =
-            let start = le_refl from in
-            let same = take-put_mid_below from (length old - from) old part from start before.within in
-            subst (Consumes a c) (sym same)
-            (Consumes-kept a b c _ before.taken kept);
-      }
-
--- a read that answered a number passed
-pub passed_if_ok : (count : ℕ) (last : LastRead) → IsLastRead (Ok count) last → last ≡ Passed
-passed_if_ok count Passed is = refl
-passed_if_ok count Failed is = absurd is
 
 -- nothing was read yet
 pub begins_read : (left : Option (List ℕ)) → HasRead left left 0

@@ -3,7 +3,8 @@ use Rattle.std.specs.Prelude.{◌≤◌, ℕ, List, ◌≡◌, ◌<◌, zero, su
 use Rattle.std.specs.{Str.bytes_eq, IoError.error_kind}
 use Rattle.std.specs.declared.io.{Error.Error, ErrorKind.TheVariants.Interrupted}
 use Rattle.sqlite_wal.specs.{PageSize.IsPageSize, Recovery.Replays, Recovery.Passes, Recovery.frame, Recovery.frame_at, Recovery.header, Recovery.sum_before, Format.part, Format.be32, Format.IsHeader, Format.commit_size}
-use Rattle.db_file.specs.declared.{judging.WalState.WalState, judging.WalState.TheVariants.Damaged, judging.WalState.TheVariants.Sound, judging.WalError.WalError, judging.WalError.TheVariants.Endless, judging.WalError.TheVariants.Unread, reads.LastRead.LastRead, reads.LastRead.TheVariants.Failed, reads.LastRead.TheVariants.Passed, reads.Reads.Reads}
+use Rattle.db_file.specs.declared.{judging.WalState.WalState, judging.WalState.TheVariants.Damaged, judging.WalState.TheVariants.Sound, judging.WalError.WalError, judging.WalError.TheVariants.Endless, judging.WalError.TheVariants.Unread}
+use Rattle.io_ends.specs.Reading.{HaveGivenUp}
 
 -- ==== Logs of which recovery takes a commit (the SQLite file format, sections 4.1 and 4.4)
 -- a log has a commit: recovery takes its first `frames` (one or more), of pages of `page` bytes, a valid size
@@ -127,23 +128,11 @@ HasRead None now count = ⊤
 HasRead (Some old) None count = ⊥
 HasRead (Some old) (Some now) count = count + length now ≤ length old
 
--- ==== The result of the last of some reads, and why a log was not checked to its end
--- what `LastRead` says of a read with this result: it failed, if its error is not an interruption
-abbrev pub IsLastRead : Result ℕ Error → LastRead → Type 0
-IsLastRead (Ok count) Passed = ⊤
-IsLastRead (Ok count) Failed = ⊥
-IsLastRead (Err error) Passed = error_kind error ≡ Interrupted
-IsLastRead (Err error) Failed = error_kind error ≢ Interrupted
-
 -- the most reads that fill one buffer, for a header or a frame: a limit of the desk
 abbrev pub most_reads : ℕ
 most_reads = 2 ^ 32 - 1
 
--- reading was given up: the last read failed; or there were as many reads as allowed, and the last passed
-abbrev pub HaveGivenUp : Reads → Type 0
-HaveGivenUp reads = (reads.last ≡ Failed) ⊎ ((reads.last ≡ Passed) × (reads.count ≡ most_reads))
-
 -- why a log was not checked to its end: reading was given up; or the log has 2 ^ 64 bytes or more
 abbrev pub IsUnchecked : Option (List ℕ) → WalError → Type 0
-IsUnchecked log (Unread reads) = HaveGivenUp reads
+IsUnchecked log (Unread reads) = HaveGivenUp most_reads reads
 IsUnchecked log Endless = IfSome log (λ bytes. 2 ^ 64 ≤ length bytes)

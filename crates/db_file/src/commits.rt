@@ -20,11 +20,7 @@ pub fn takes_commit<D: Disk>(alloc: Global, files: &mut Files<D>) -> Option<bool
         → IsTrue taken ↔ HasCommit (D.Disk.seen files.old.log)) }
     ensures reads { OnlyReadsBoth D.Disk (files.old.log, files.old.db) (files.new.log, files.new.db) }
 {
-    let Ok(Some(size)) = probe_page_size(files) else {
-        return None;
-    };
-    match probe_frames(alloc, &mut files.log, size) {
-        Ok(pages) => Some(!pages.is_empty()),
-        Err(_) => None,
-    }
+    let size = probe_page_size(files).ok()??;
+    let pages = probe_frames(alloc, &mut files.log, size).ok()?;
+    Some(!pages.is_empty())
 }

@@ -25,10 +25,7 @@ const RESERVED_AT: usize = 20;
 pub fn byte(bytes: &[u8], at: usize) -> u8
     ensures { result ≡ spec.byte bytes.now at }
 {
-    match bytes.get(at) {
-        Some(byte) => *byte,
-        None => 0,
-    }
+    bytes.get(at).copied().unwrap_or(0)
 }
 
 /// Whether the header of a database reserves eight bytes at the end of each page. Its pages are then taken to

@@ -3,13 +3,14 @@
 ghost use Rattle.std.specs.Io.KnownBytes.{Consumes};
 ghost use Rattle.std.specs.Prelude.{◌≡◌, true, ◌<◌, ◌≤◌, ◌+◌, ◌^◌, ℕ, List, length, IfErr, IfOk, IfSome};
 ghost use Rattle.sqlite_wal.specs.{Format.IsHeader, PageSize.IsPageSize, Recovery.header};
-ghost use Rattle.db_file.specs.Wal.{IsStateOf, HaveGivenUp, IsUnchecked, HasFrame, HasRead, IsBefore, IsNext, IsStopState, LosesCommits, StopsAt};
+ghost use Rattle.io_ends.specs.Reading.{HaveGivenUp};
+ghost use Rattle.db_file.specs.Wal.{IsStateOf, IsUnchecked, most_reads, HasFrame, HasRead, IsBefore, IsNext, LosesCommits, StopsAt};
 
 use crate::frames::{FRAME_HEADER, commits_ended, has_salts, is_frame_valid};
 use crate::numbers::checksum_at;
 use crate::reading::read_whole;
-use crate::reads::Reads;
 use crate::wal_header::{HEADER, page_size_in};
+use io_ends::{ReadError, Reads};
 use std::io::Read;
 
 // How many bytes the largest frame has: a header of 24, and a page of 65,536.
@@ -33,14 +34,14 @@ pub enum WalError {
     Endless,
 }
 
-impl From<Reads> for WalError {
+impl<R> From<ReadError<R>> for WalError {
     ghost use Rattle.std.specs.Prelude.{◌≡◌};
     ghost use Rattle.db_file.specs.declared.judging.WalError.TheVariants.{Unread};
 
-    ghost from_gives = { λ reads fault. fault ≡ Unread reads };
+    ghost from_gives = { λ error fault. fault ≡ Unread error.reads };
 
-    fn from(reads: Reads) -> WalError {
-        WalError::Unread(reads)
+    fn from(error: ReadError<R>) -> WalError {
+        WalError::Unread(error.reads())
     }
 }
 
@@ -56,20 +57,11 @@ pub fn check_wal<R: Read>(log: &mut R) -> Result<WalState, WalError>
     ensures fault { IfErr result (IsUnchecked (R.remaining log.old)) }
 {
     let mut room = [0u8; MAX_FRAME];
-    check_with_buffer(log, &mut room)
-}
-
-// Checks a WAL; `room` is the buffer for a frame. A WAL with no valid header is sound: recovery accepts
-// nothing of it.
-fn check_with_buffer<R: Read>(log: &mut R, room: &mut [u8]) -> Result<WalState, WalError>
-    requires { length room.old ≡ 65560 }
-    ensures value { IfOk result (λ verdict. IfSome (R.remaining log.old) (λ bytes. IsStateOf bytes verdict)) }
-    ensures fault { IfErr result (IsUnchecked (R.remaining log.old)) }
-{
     let mut head = [0u8; HEADER];
     if !read_whole(log, &mut head)? {
         return Ok(WalState::Sound);
     }
+    // Recovery accepts nothing of a WAL with no valid header.
     match page_size_in(&head) {
         Some(page) => check_frames(log, &head, &mut room[..FRAME_HEADER + page]),
         None => Ok(WalState::Sound),
@@ -77,7 +69,8 @@ fn check_with_buffer<R: Read>(log: &mut R, room: &mut [u8]) -> Result<WalState, 
 }
 
 // Checks the frames of a WAL with the header `head`. `log` is at the first one; `frame` is the buffer,
-// which has the length of a frame.
+// which has the length of a frame. A crash may tear the last commit, so the WAL is damaged only if two or
+// more are lost.
 fn check_frames<R: Read>(
     log: &mut R,
     head: &[u8; HEADER],
@@ -89,27 +82,9 @@ fn check_frames<R: Read>(
         → IfOk result (IsStateOf bytes) }
     ensures fault { IfErr result (IsUnchecked (R.remaining log.old)) }
 {
-    match find_stop(log, head, frame)? {
-        Some(stop) => state_at_stop(log, head, frame, stop),
-        None => Ok(WalState::Sound),
-    }
-}
-
-// The state of a WAL with the header `head`, in which recovery stops at frame number `stop`. This frame was
-// read last, into `frame`. A crash may tear the last commit, so the WAL is damaged only if two or more are
-// lost.
-fn state_at_stop<R: Read>(
-    log: &mut R,
-    head: &[u8; HEADER],
-    frame: &mut [u8],
-    stop: u64,
-) -> Result<WalState, WalError>
-    requires { 24 ≤ length frame.old }
-    ensures value { (page : ℕ) (bytes : List ℕ) → length frame.old ≡ 24 + page → header bytes ≡ head.now
-        → HasFrame page bytes stop frame.old (R.remaining log.old)
-        → IfOk result (IsStopState page bytes stop) }
-    ensures fault { IfErr result (IsUnchecked (R.remaining log.old)) }
-{
+    let Some(stop) = find_stop(log, head, frame)? else {
+        return Ok(WalState::Sound);
+    };
     let commits = count_commits(log, head, frame)?;
     if commits < 2 {
         return Ok(WalState::Sound);
@@ -175,13 +150,13 @@ fn count_commits<R: Read>(
 }
 
 // Reads the next frame into `frame`; returns false if the WAL ends within it.
-fn next_frame<R: Read>(log: &mut R, frame: &mut [u8]) -> Result<bool, Reads>
+fn next_frame<R: Read>(log: &mut R, frame: &mut [u8]) -> Result<bool, ReadError<R>>
     ensures value { (page n : ℕ) (bytes : List ℕ) → length frame.old ≡ 24 + page
         → IsBefore page bytes n (R.remaining log.old)
         → IfOk result (IsNext page bytes n frame.new (R.remaining log.new)) }
     ensures read { IfOk result (λ is_whole. is_whole ≡ true →
         Consumes (R.remaining log.old) (R.remaining log.new) frame.new) }
-    ensures fault { IfErr result HaveGivenUp }
+    ensures fault { IfErr result (λ error. HaveGivenUp most_reads error.reads) }
 {
     read_whole(log, frame)
 }

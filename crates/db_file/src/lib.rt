@@ -12,7 +12,6 @@ mod numbers;
 mod orders;
 mod ram;
 mod reading;
-mod reads;
 mod sums;
 mod wal_header;
 
@@ -25,7 +24,6 @@ pub use laws::{
 };
 pub use orders::{copy_in_order, copy_mended, has_other_order, order_page, order_text};
 pub use ram::Ram;
-pub use reads::{LastRead, Reads};
 pub use sums::{
     copy_bytes, copy_checksummed, count_bad_checksums, count_bad_pages, has_checksums, set_checksum,
 };

@@ -57,13 +57,11 @@ fn own_name(place: u16) -> &'static [u8]
 fn packed_place(place: u16) -> u16
     ensures { result ≡ spec.packed_place place }
 {
-    if place < 8 {
-        return place;
+    match place {
+        8..=11 => place + 1,
+        12 => 8,
+        _ => place,
     }
-    if place < 12 {
-        return place + 1;
-    }
-    if place == 12 { 8 } else { place }
 }
 
 // The name at `place` of the packed order if `is_packed`, else of the canonical one.
@@ -128,13 +126,9 @@ fn is_plain(page: &[u8], slot: u16) -> bool
     ensures { result ≡ spec.is_plain page.now slot }
 {
     let cell = cell(page, slot);
-    if byte(page, cell + 1) >= 128 {
-        return false;
-    }
-    if byte(page, cell + 2) >= 128 {
-        return false;
-    }
-    rowid_at(page, slot) + 1 + size(page, slot) <= page.len()
+    byte(page, cell + 1) < 128
+        && byte(page, cell + 2) < 128
+        && rowid_at(page, slot) + 1 + size(page, slot) <= page.len()
 }
 
 // The bytes of the row at `slot` after its rowid: the lengths of its values, then the values.
@@ -142,9 +136,8 @@ fn row(page: &[u8], slot: u16) -> &[u8]
     requires { spec.is_plain page.now slot ≡ true }
     ensures { result.now ≡ spec.row page.now slot }
 {
-    let (_, rest) = page.split_at(rowid_at(page, slot) + 1);
-    let (row, _) = rest.split_at(size(page, slot));
-    row
+    let start = rowid_at(page, slot) + 1;
+    &page[start..start + size(page, slot)]
 }
 
 // How many bytes a text has, by its serial type `code` (the SQLite file format, section 2.1).
@@ -161,22 +154,14 @@ fn has_name(row: &[u8], name: &[u8]) -> bool
 {
     let from = usize::from(byte(row, 0)) + text_len(byte(row, 1));
     let len = text_len(byte(row, 2));
-    if from + len > row.len() {
-        return false;
-    }
-    let (_, rest) = row.split_at(from);
-    let (text, _) = rest.split_at(len);
-    text == name
+    from + len <= row.len() && row[from..from + len] == name[..]
 }
 
 // Whether the row at `slot` is that of the table or index `name`.
 fn is_named(page: &[u8], slot: u16, name: &[u8]) -> bool
     ensures { result ≡ spec.is_slot_named page.now slot name.now }
 {
-    if !is_plain(page, slot) {
-        return false;
-    }
-    has_name(row(page, slot), name)
+    is_plain(page, slot) && has_name(row(page, slot), name)
 }
 
 // The first slot whose row is that of the table or index `name`; `None` if there is none.
@@ -199,16 +184,10 @@ fn is_moved(old: &[u8], from: u16, page: &[u8], to: u16) -> bool
     requires { spec.is_plain old.now from ≡ true }
     ensures { result ≡ spec.is_moved old.now from page.now to }
 {
-    if !is_plain(page, to) {
-        return false;
-    }
-    if cell(page, to) != cell(old, from) {
-        return false;
-    }
-    if u32::from(byte(page, rowid_at(page, to))) != u32::from(to) + 1 {
-        return false;
-    }
-    row(page, to) == row(old, from)
+    is_plain(page, to)
+        && cell(page, to) == cell(old, from)
+        && u32::from(byte(page, rowid_at(page, to))) == u32::from(to) + 1
+        && row(page, to) == row(old, from)
 }
 
 // Whether the slot `to` of `page` has the row of `old` whose name is at place `to` of the packed order if
@@ -216,10 +195,7 @@ fn is_moved(old: &[u8], from: u16, page: &[u8], to: u16) -> bool
 fn is_moved_by_name(is_packed: bool, old: &[u8], page: &[u8], to: u16) -> bool
     ensures { result ≡ spec.is_moved_by_name is_packed old.now page.now to }
 {
-    match slot_of(old, name_at(is_packed, to)) {
-        Some(from) => is_moved(old, from, page, to),
-        None => false,
-    }
+    slot_of(old, name_at(is_packed, to)).is_some_and(|from| is_moved(old, from, page, to))
 }
 
 // Whether the first `count` slots of `page` have the rows of `old`, in packed order if `is_packed`, else in
@@ -249,16 +225,10 @@ fn are_listed(is_packed: bool, page: &[u8]) -> bool
 fn is_in_other_order(page: &[u8]) -> bool
     ensures { result ≡ spec.is_in_other_order page.now }
 {
-    if byte(page, 100) != LEAF {
-        return false;
-    }
-    if count_of(page) > SCHEMA_ENTRIES {
-        return false;
-    }
-    if are_listed(false, page) {
-        return false;
-    }
-    !(count_of(page) == SCHEMA_ENTRIES && are_listed(true, page))
+    byte(page, 100) == LEAF
+        && count_of(page) <= SCHEMA_ENTRIES
+        && !are_listed(false, page)
+        && !(count_of(page) == SCHEMA_ENTRIES && are_listed(true, page))
 }
 
 // Points the slot `to` of `page` to the cell of the slot `from` of `old`, whose row gets the rowid
@@ -286,13 +256,11 @@ fn place_row(old: &[u8], to: u16, page: &mut [u8]) -> bool
     ensures placed { result ≡ true → spec.placed_by_name old.now to page.old ≡ Some page.new }
     ensures missing { result ≡ false → spec.placed_by_name old.now to page.old ≡ None }
 {
-    match slot_of(old, name_at(false, to)) {
-        Some(from) => {
-            move_row(old, from, to, page);
-            true
-        }
-        None => false,
-    }
+    let Some(from) = slot_of(old, name_at(false, to)) else {
+        return false;
+    };
+    move_row(old, from, to, page);
+    true
 }
 
 // Gives the first `count` slots of `page` the rows of `old` in canonical order; returns false if `old`
@@ -322,14 +290,8 @@ fn try_reorder(old: &[u8], page: &mut [u8]) -> bool
     ensures ordered { result ≡ true → spec.ordered old.now ≡ Some page.new }
     ensures left { result ≡ false → spec.ordered old.now ≡ None }
 {
-    if !is_in_other_order(old) {
-        return false;
-    }
     let count = count_of(old);
-    if !place_rows(old, count, page) {
-        return false;
-    }
-    are_moved(false, old, page, count)
+    is_in_other_order(old) && place_rows(old, count, page) && are_moved(false, old, page, count)
 }
 
 // Whether a first page lists the schema's tables and indexes, or the first few of them, in an order that is
@@ -388,10 +350,7 @@ fn is_disordered_if_opened<R: Read + Drop>(opened: io::Result<R>) -> bool
     ensures no_page_size { IfOk opened (λ file. IfSome (R.remaining file) (λ bytes.
         ¬ IsPageSize (size_in_file bytes) → result ≡ false)) }
 {
-    match opened {
-        Ok(mut file) => matches!(is_file_disordered(&mut file), Ok(true)),
-        Err(_) => false,
-    }
+    opened.is_ok_and(|mut file| matches!(is_file_disordered(&mut file), Ok(true)))
 }
 
 // Whether a file lists the schema's tables and indexes, or the first few of them, in another order; false if

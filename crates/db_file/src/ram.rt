@@ -24,15 +24,9 @@ impl Ram {
     pub fn new(alloc: Global) -> Ram
         ensures empty { result.bytes.items ≡ [] }
     {
-        Ram {
-            bytes: Vec::new(alloc),
-            faults: 0,
-            caught: 0,
-        }
+        Ram::of(Vec::new(alloc))
     }
-}
 
-impl Ram {
     /// A file with the content `bytes`.
     pub fn of(bytes: Vec<u8>) -> Ram
         ensures bytes { result.bytes.items ≡ bytes.items }

@@ -2,12 +2,13 @@
 
 ghost use Rattle.std.specs.Prelude.{◌≡◌, ◌<◌, ◌≤◌, false, true, length, take, IfErr, IfOk, IfSome};
 ghost use Rattle.std.specs.Io.KnownBytes.{Consumes, IsAtEnd};
-ghost use Rattle.db_file.specs.Wal.{HaveGivenUp};
+ghost use Rattle.io_ends.specs.Reading.{HaveGivenUp};
+ghost use Rattle.db_file.specs.Wal.{most_reads};
 
-use crate::reads::{Reads, read_counted};
+use io_ends::{ReadError, Reads, read_within};
 use std::io::Read;
 
-// The most reads that one call of `read_whole` makes.
+// The most calls of `read` that one call of `read_whole` makes.
 const MAX_READS: u32 = u32::MAX;
 
 /// Fills the buffer `room` from `input`; returns false if the input ends before. Interrupted reads are
@@ -15,42 +16,38 @@ const MAX_READS: u32 = u32::MAX;
 ///
 /// # Errors
 ///
-/// The number of reads so far, if the last one failed or 2^32 - 1 of them weren't enough.
-pub fn read_whole<R: Read>(input: &mut R, room: &mut [u8]) -> Result<bool, Reads>
+/// `ReadError` if a read failed, or if 2^32 - 1 of them weren't enough; it has the reads so far.
+pub fn read_whole<R: Read>(input: &mut R, room: &mut [u8]) -> Result<bool, ReadError<R>>
     ensures whole { IfOk result (λ is_whole. is_whole ≡ true →
         Consumes (R.remaining input.old) (R.remaining input.new) room.new) }
     ensures short { IfOk result (λ is_whole. is_whole ≡ false →
         IfSome (R.remaining input.old) (λ rest. length rest < length room.new)) }
-    ensures fault { IfErr result HaveGivenUp }
+    ensures fault { IfErr result (λ error. HaveGivenUp most_reads error.reads) }
 {
     let count = fill(input, room)?;
     Ok(count == room.len())
 }
 
 // Reads into `room` until it is full or the input ends; returns how many bytes were read. It fails as
-// `read_whole` does.
-fn fill<R: Read>(input: &mut R, room: &mut [u8]) -> Result<usize, Reads>
+// `read_whole` does. Each round reads at least one byte, so as many rounds as bytes are enough.
+fn fill<R: Read>(input: &mut R, room: &mut [u8]) -> Result<usize, ReadError<R>>
     ensures within { IfOk result (λ count. count ≤ length room.new) }
     ensures taken { IfOk result (λ count.
         Consumes (R.remaining input.old) (R.remaining input.new) (take count room.new)) }
     ensures end { IfOk result (λ count. count < length room.new → IsAtEnd (R.remaining input.new)) }
-    ensures fault { IfErr result HaveGivenUp }
+    ensures fault { IfErr result (λ error. HaveGivenUp most_reads error.reads) }
 {
     let mut count = 0;
     let mut reads = Reads::none();
-    for _ in 0..MAX_READS {
+    for _ in 0..room.len() {
         if count == room.len() {
             return Ok(count);
         }
-        match read_counted(input, &mut room[count..], &mut reads) {
-            Ok(0) => return Ok(count),
-            Ok(more) => count += more,
-            Err(_) => {
-                if !reads.may_go_on() {
-                    return Err(reads);
-                }
-            }
+        let more = read_within(input, &mut room[count..], MAX_READS, &mut reads)?;
+        if more == 0 {
+            return Ok(count);
         }
+        count += more;
     }
-    Err(reads)
+    Ok(count)
 }

@@ -38,10 +38,7 @@ fn count_bad_if_opened<R: Read + Drop>(
     ensures counted { IfSome result (λ bad_count. IfOk opened (λ file. IfSome (R.remaining file) (λ bytes.
         length bytes ≡ len → bad_count ≡ spec.bad_checksums_in (bytes_of size) bytes))) }
 {
-    match opened {
-        Ok(mut file) => count_bad_pages(&mut file, size, len).ok(),
-        Err(_) => None,
-    }
+    count_bad_pages(&mut opened.ok()?, size, len).ok()
 }
 
 // The page size of the file `opened`, if its pages have checksums. None also if it wasn't opened, can't be
@@ -51,10 +48,7 @@ fn checksummed_size<R: Read + Drop>(opened: io::Result<R>) -> Option<PageSize>
     ensures sized { IfSome result (λ size. IfOk opened (λ file. IfSome (R.remaining file) (λ bytes.
         (has_checksum_space bytes ≡ true) × (bytes_of size ≡ size_in_file bytes)))) }
 {
-    match opened {
-        Ok(mut file) => read_checksummed_size(&mut file).ok()?,
-        Err(_) => None,
-    }
+    read_checksummed_size(&mut opened.ok()?).ok()?
 }
 
 // Reads the header of a database; returns its page size, if that is valid and the pages have checksums.
@@ -66,20 +60,10 @@ fn read_checksummed_size<R: Read>(file: &mut R) -> io::Result<Option<PageSize>>
 {
     let mut header = [0u8; HEADER];
     file.read_exact(&mut header)?;
-    Ok(checksummed_size_in(&header))
-}
-
-// The page size that the header of a database names, if that is valid and the pages have checksums.
-fn checksummed_size_in(header: &[u8; HEADER]) -> Option<PageSize>
-    ensures some { IfSome result (λ size.
-        (has_checksum_space header.now ≡ true) × (bytes_of size ≡ size_in_file header.now)) }
-    ensures none { result ≡ None → has_checksum_space header.now ≡ true
-        → ¬ IsPageSize (size_in_file header.now) }
-{
-    if !has_checksum_space(header) {
-        return None;
+    if !has_checksum_space(&header) {
+        return Ok(None);
     }
-    page_size_in(header)
+    Ok(page_size_in(&header))
 }
 
 /// Opens the file at `path` for reading, if it is a regular file: to open a pipe would wait for a writer.

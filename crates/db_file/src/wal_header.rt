@@ -25,8 +25,7 @@ pub fn page_size_in(head: &[u8; 32]) -> Option<usize>
     if number_at(head, 4) != VERSION || !has_magic_and_checksum(head) {
         return None;
     }
-    let size = PageSize::new(number_at(head, 8) as usize)?;
-    Some(size.bytes())
+    PageSize::new(number_at(head, 8) as usize).map(PageSize::bytes)
 }
 
 // Whether `head` begins with a magic number of WALs and ends with the checksum of its first 24 bytes. The

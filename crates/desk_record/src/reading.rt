@@ -1,20 +1,20 @@
 //! Entries read from a stream.
 
-ghost use Rattle.std.specs.Prelude.{◌≡◌, ◌≤◌, ◌<◌, None, length, take, IfErr, IfOk, IfSome};
-ghost use Rattle.std.specs.{Io.ReadsAtMost, Io.KnownBytes.Consumes, Io.KnownBytes.IsAtEnd};
+ghost use Rattle.std.specs.Prelude.{◌≡◌, ◌≤◌, ◌<◌, None, length, IfErr, IfOk, IfSome};
+ghost use Rattle.std.specs.{Io.KnownBytes.Consumes, Io.KnownBytes.IsAtEnd};
 ghost use Rattle.desk_record.specs.Record.{Fits, entry, line_parts, IsReadFailure, LacksEntry, entry_parts, are_bytes_intact};
 
 use crate::entry::Entry;
 use crate::line::{LINE_LEN, Line, read_line};
 use crate::sums::checksum;
-use io_ends::is_interrupted;
+use io_ends::{ReadError, Reads, read_within};
 use std::alloc::{AllocError, Global};
 use std::io::Read;
 
 /// At most how many bytes one read asks for.
 const CHUNK: usize = 4_096;
 
-/// After how many interrupted tries a read counts as failed.
+/// The most calls of `read` for one chunk; interrupted ones are made again.
 const MAX_TRIES: u32 = 1_000_000;
 
 /// Why no entry was read.
@@ -38,6 +38,18 @@ impl From<AllocError> for ReadFault {
 
     fn from(_: AllocError) -> ReadFault {
         ReadFault::OutOfMemory
+    }
+}
+
+impl<R> From<ReadError<R>> for ReadFault {
+    ghost use Rattle.std.specs.Prelude.{◌≡◌};
+    ghost use Rattle.desk_record.specs.declared.reading.ReadFault.TheVariants as read_fault;
+
+    ghost from_gives = { λ _ fault. fault ≡ read_fault.Read };
+
+    // A read failed, or was interrupted a million times.
+    fn from(_error: ReadError<R>) -> ReadFault {
+        ReadFault::Read
     }
 }
 
@@ -108,7 +120,7 @@ fn read_up_to<R: Read>(alloc: Global, input: &mut R, size: u64) -> Result<Vec<u8
             return Ok(text);
         }
         let room = left.min(CHUNK as u64) as usize;
-        let count = read_retrying(input, &mut chunk[..room])?;
+        let count = read_within(input, &mut chunk[..room], MAX_TRIES, &mut Reads::none())?;
         if count == 0 {
             return Ok(text);
         }
@@ -116,23 +128,4 @@ fn read_up_to<R: Read>(alloc: Global, input: &mut R, size: u64) -> Result<Vec<u8
         left -= count as u64;
     }
     Ok(text)
-}
-
-// Reads once into `room`, and returns how many bytes were read: 0 at the end of the input. An interrupted
-// read is tried again, at most a million times; then it counts as failed.
-fn read_retrying<R: Read>(input: &mut R, room: &mut [u8]) -> Result<usize, ReadFault>
-    ensures bound { ReadsAtMost result room.new }
-    ensures taken { IfOk result (λ n.
-        Consumes (R.remaining input.old) (R.remaining input.new) (take n room.new)) }
-    ensures end { IfOk result (λ n. n ≡ 0 → 0 < length room.new → IsAtEnd (R.remaining input.new)) }
-    ensures fault { IfErr result IsReadFailure }
-{
-    for _ in 0..MAX_TRIES {
-        match input.read(room) {
-            Ok(count) => return Ok(count),
-            Err(error) if is_interrupted(&error) => {}
-            Err(_) => return Err(ReadFault::Read),
-        }
-    }
-    Err(ReadFault::Read)
 }

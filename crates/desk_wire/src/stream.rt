@@ -2,7 +2,7 @@
 //! with `Read` if a read fails, and with `OutOfMemory` if memory runs out.
 
 ghost use Rattle.std.specs.Prelude.{◌≡◌, ◌<◌, ◌+◌, ◌++◌, [], length, take, IfErr, IfOk, IfSome, None};
-ghost use Rattle.std.specs.{Io.ReadsAtMost, Result.is_ok, Io.KnownBytes.Appends, Io.KnownBytes.Consumes, Io.KnownBytes.IsAtEnd, Io.KnownBytes.ReadConsumes};
+ghost use Rattle.std.specs.{Result.is_ok, Io.KnownBytes.Appends, Io.KnownBytes.Consumes, Io.KnownBytes.IsAtEnd};
 ghost use Rattle.request_parser.specs.Messages.{message_read};
 ghost use Rattle.desk_store.specs.Changes.{Remembers, IsHonest};
 ghost use Rattle.desk_run.specs.Verdicts.{world_of};
@@ -13,10 +13,10 @@ ghost use Rattle.desk_wire.specs.Streams.{passage, HasServed, IsTaken, Stops, Is
 use crate::answering::answer_request;
 use desk_run::Desk;
 use desk_store::PlanStore;
-use io_ends::{Moment, ServeFault, Served, is_interrupted, write_whole};
+use io_ends::{Moment, Reads, ServeFault, Served, read_within, write_whole};
 use request_parser::{Front, HEAD_ROOM, Message, WireFault, is_ended, read_front};
 use std::alloc::Global;
-use std::io::{self, Read, Write};
+use std::io::{Read, Write};
 
 /// The maximum number of reads for one request, interrupted ones included.
 const MAX_READS: u32 = 200_000;
@@ -47,7 +47,7 @@ pub fn serve_one<S: PlanStore, R: Read, W: Write>(
     ensures cause { IfOk result (λ served. HasStatus500 served → HasFailed (Appends (W.contents output.old)
         (W.contents output.new)) (S.faults desk.old.store) (S.faults desk.new.store)) }
 {
-    let mut reads = MAX_READS;
+    let mut reads = Reads::none();
     let text = receive_head(alloc, input, &mut reads)?;
     if text.is_empty() {
         return Ok(Served::End);
@@ -72,7 +72,7 @@ pub fn receive_request<R: Read>(alloc: Global, input: &mut R) -> Result<Vec<u8>,
     ensures end { IfOk result (λ request. request.items ≡ [] → IsAtEnd (R.remaining input.old)) }
     ensures fault { IfErr result (Stops (IfSome (R.remaining input.old) IsCut)) }
 {
-    let mut reads = MAX_READS;
+    let mut reads = Reads::none();
     let head = receive_head(alloc, input, &mut reads)?;
     if head.is_empty() {
         return Ok(head);
@@ -119,10 +119,7 @@ fn parse_front(text: &[u8]) -> Result<Front<'_>, WireFault>
 fn body_size(front: &Result<Front<'_>, WireFault>) -> u64
     ensures { result ≡ size_or_zero (front_result front.now) }
 {
-    match front {
-        Ok(front) => front.size,
-        Err(_) => 0,
-    }
+    front.as_ref().map_or(0, |front| front.size)
 }
 
 // The request with the head of `front` and with `body`, or the fault of the head.
@@ -132,18 +129,16 @@ fn attach_body<'t>(
 ) -> Result<Message<'t>, WireFault>
     ensures { message_read result ≡ with_body (front_result front.entry) body.now }
 {
-    match front {
-        Ok(Front { head, .. }) => Ok(Message { head, body }),
-        Err(fault) => Err(fault),
-    }
+    let Front { head, .. } = front?;
+    Ok(Message { head, body })
 }
 
 // Reads a head byte by byte, up to its end or to `HEAD_ROOM` bytes. It is empty if the input has ended.
-// `CutShort` if the input ends inside it. `reads` is how many reads are left for the request.
+// `CutShort` if the input ends inside it. `reads` are the reads that were made for the request.
 fn receive_head<R: Read>(
     alloc: Global,
     input: &mut R,
-    reads: &mut u32,
+    reads: &mut Reads,
 ) -> Result<Vec<u8>, ServeFault>
     ensures taken { IfOk result (λ text.
         Consumes (R.remaining input.old) (R.remaining input.new) text.items) }
@@ -168,25 +163,26 @@ fn receive_head<R: Read>(
     Ok(text)
 }
 
-// The next byte of `input`. None if the input has ended. `reads` is how many reads are left for the request.
-fn receive_byte<R: Read>(input: &mut R, reads: &mut u32) -> Result<Option<u8>, ServeFault>
+// The next byte of `input`. None if the input has ended. `reads` are the reads that were made for the
+// request.
+fn receive_byte<R: Read>(input: &mut R, reads: &mut Reads) -> Result<Option<u8>, ServeFault>
     ensures taken { IfOk result (λ byte.
         Consumes (R.remaining input.old) (R.remaining input.new) (byte_list byte)) }
     ensures end { IfOk result (λ byte. byte ≡ None → IsAtEnd (R.remaining input.new)) }
     ensures fault { IfErr result (λ f. f ≡ serve_fault.Read) }
 {
     let mut room = [0u8];
-    let count = receive_retrying(input, &mut room, reads)?;
+    let count = read_within(input, &mut room, MAX_READS, reads)?;
     Ok((count > 0).then_some(room[0]))
 }
 
 // Reads a body of `size` bytes, in at most `size` reads that bring a byte or more. `CutShort` if the input
-// ends before. `reads` is how many reads are left for the request.
+// ends before. `reads` are the reads that were made for the request.
 fn receive_body<R: Read>(
     alloc: Global,
     input: &mut R,
     size: u64,
-    reads: &mut u32,
+    reads: &mut Reads,
 ) -> Result<Vec<u8>, ServeFault>
     ensures taken { IfOk result (λ body.
         Consumes (R.remaining input.old) (R.remaining input.new) body.items) }
@@ -201,7 +197,7 @@ fn receive_body<R: Read>(
             return Ok(body);
         }
         let room = left.min(CHUNK as u64) as usize;
-        let count = receive_retrying(input, &mut chunk[..room], reads)?;
+        let count = read_within(input, &mut chunk[..room], MAX_READS, reads)?;
         if count == 0 {
             return Err(ServeFault::CutShort);
         }
@@ -209,39 +205,4 @@ fn receive_body<R: Read>(
         left -= count as u64;
     }
     Ok(body)
-}
-
-// Reads once into `room`, and returns how many bytes came: 0 at the end of the input. An interrupted read is
-// retried as long as `reads`, how many reads are left, is above 0; after that, and if a read fails, the error
-// is `Read`.
-fn receive_retrying<R: Read>(
-    input: &mut R,
-    room: &mut [u8],
-    reads: &mut u32,
-) -> Result<usize, ServeFault>
-    ensures bound { ReadsAtMost result room.new }
-    ensures taken { IfOk result (λ n.
-        Consumes (R.remaining input.old) (R.remaining input.new) (take n room.new)) }
-    ensures end { IfOk result (λ n. n ≡ 0 → 0 < length room.new → IsAtEnd (R.remaining input.new)) }
-    ensures fault { IfErr result (λ f. f ≡ serve_fault.Read) }
-{
-    while *reads > 0 {
-        match read_counted(input, room, reads) {
-            Ok(count) => return Ok(count),
-            Err(error) if is_interrupted(&error) => {}
-            Err(_) => return Err(ServeFault::Read),
-        }
-    }
-    Err(ServeFault::Read)
-}
-
-// Reads once into `room`, and takes one from `left`, how many reads are left, even if the read fails.
-fn read_counted<R: Read>(input: &mut R, room: &mut [u8], left: &mut u32) -> io::Result<usize>
-    requires { 0 < left.old }
-    ensures bound { ReadsAtMost result room.new }
-    ensures taken { ReadConsumes (R.remaining input.old) (R.remaining input.new) result room.new }
-    ensures counted { left.new + 1 ≡ left.old }
-{
-    *left -= 1;
-    input.read(room)
 }

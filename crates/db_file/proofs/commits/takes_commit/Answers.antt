@@ -5,11 +5,11 @@ use Rattle.sqlite_wal.specs.Recovery.{AreFramesOf}
 use Rattle.db_file.proofs.WalCommitLemmas.{taken_iff}
 use Rattle.db_file.proofs.commits.takes_commit.Goals as goal
 
-pub returns-in-Ok-clause-taken : goal.returns-in-Ok-clause-taken
-returns-in-Ok-clause-taken g c clean =
-    let size = c.in-Ok-Some.size in
+pub returns-clause-taken : goal.returns-clause-taken
+returns-clause-taken g c clean =
+    let size = c.in_ok-size.size in
     let of_log : IsClean g.D.Disk c.probe_frames.new.log = search (rules, clean) in
-    let are : AreFramesOf (bytes_of size) (g.D.Disk.seen c.args.files.now.log) c.in-Ok.pages.items =
+    let are : AreFramesOf (bytes_of size) (g.D.Disk.seen c.args.files.now.log) c.in_ok-pages.pages.items =
     search (rules, of_log) in
-    taken_iff (bytes_of size) c.in-Ok.pages.len _ _ _
+    taken_iff (bytes_of size) c.in_ok-pages.pages.len _ _ _
     (size.smallest, size.largest, size.power, size.aligned) are (search rules) (search rules)

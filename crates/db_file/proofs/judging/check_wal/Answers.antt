@@ -1,15 +1,13 @@
-use Rattle.std.proofs.Common.{◌+◌, arith, refl, length-take-le}
+use Rattle.std.proofs.Common.{refl, rules}
 use Rattle.db_file.proofs.JudgeLemmas.{reported_of_all, no_log, too_short}
-use Rattle.db_file.proofs.judging.check_with_buffer.Goals as goal
+use Rattle.db_file.proofs.judging.check_wal.Goals as goal
 
 pub returns-in-Some-clause-value : goal.returns-in-Some-clause-value
 returns-in-Some-clause-value g c =
-    let fits = length-take-le (24 + c.in-Some.page) c.args.room.now
-    (omega (arith, c.requires, c.in-Some.ensures.size.1)) in
     reported_of_all c.in-Some.page _ _ _ _ c.read_whole.auto.room
     (c.in_ok-read_whole.ensures.whole c.if-not-branch.false)
     λ bytes head before.
-    c.check_frames.ensures.value c.in-Some.page bytes fits head c.in-Some.ensures.some c.in-Some.ensures.size
+    c.check_frames.ensures.value c.in-Some.page bytes (search rules) head c.in-Some.ensures.some c.in-Some.ensures.size
     before
 
 pub returns-in-None-clause-value : goal.returns-in-None-clause-value
