@@ -90,7 +90,8 @@ impl Chunk {
         before.saturating_sub(self.volumes.len())
     }
 
-    // Whether there is capacity for the volumes of `next`, and the chunk would be at most half full then.
+    // Whether the volumes of `next` may be added to this chunk: together they are at most `FULL / 2`, and
+    // there is capacity for them. The clause says of `true` that there is capacity, and nothing of `false`.
     fn has_room_for(&self, next: &Chunk) -> bool
         ensures { result ≡ true → length self.now.volumes.items + length next.now.volumes.items
             ≤ self.now.volumes.cap }

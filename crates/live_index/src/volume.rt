@@ -24,7 +24,7 @@ pub struct LiveVolume {
     pub(crate) bounds: Slab,
     // an estimate of how many rows of spans the whole plan has, which no clause mentions
     pub(crate) rows: usize,
-    // its place in the order of chunks (`place_of`), which no clause mentions
+    // its place in the order of volumes (`place_of`), which only the clause of `rank` mentions
     pub(crate) place: u128,
 }
 
@@ -74,7 +74,7 @@ impl LiveVolume {
         }
     }
 
-    /// The rank of the volume in the order of chunks.
+    /// The rank of the volume, by which volumes are divided into chunks: its place, and then its plan's key.
     pub(crate) fn rank(&self) -> Rank
         ensures place { result.place ≡ self.now.place }
         ensures plan { result.plan ≡ spec.key_of self.now }

@@ -108,7 +108,11 @@ impl OperatorEntry {
         ensures cells { state_cells_beside id.now self.now.plans.items < 2 ^ 32
             → result.cells ≡ state_cells_beside id.now self.now.plans.items }
     {
-        sizes_of(&self.plans, id)
+        let mut sizes = Sizes::none();
+        for plan in &self.plans {
+            sizes = sizes.plus(plan.sizes_unless(id));
+        }
+        sizes
     }
 
     /// Sets the ceiling, unless the operator has one already.
@@ -164,20 +168,6 @@ impl OperatorEntry {
     }
 }
 
-// The sizes of `plans` without the one with this id. A number that exceeds 32 bits becomes `u32::MAX`.
-fn sizes_of(plans: &[PlanState], id: &PlanId) -> Sizes
-    ensures spans { state_spans_beside id.now plans.now < 2 ^ 32
-        → result.spans ≡ state_spans_beside id.now plans.now }
-    ensures cells { state_cells_beside id.now plans.now < 2 ^ 32
-        → result.cells ≡ state_cells_beside id.now plans.now }
-{
-    let mut sizes = Sizes::none();
-    for plan in plans {
-        sizes = sizes.plus(plan.sizes_unless(id));
-    }
-    sizes
-}
-
 // Replaces the plan with the id of `state`, or inserts it in order. There is capacity for it, so `insert`
 // can't fail.
 fn put(plans: &mut Vec<PlanState>, state: PlanState)
@@ -213,10 +203,7 @@ fn place_of(plans: &[PlanState], state: &PlanState) -> usize
 fn is_at(plans: &[PlanState], at: usize, state: &PlanState) -> bool
     ensures { result ≡ spec.first_has_id_of state.now (drop at plans.now) }
 {
-    match plans.get(at) {
-        Some(plan) => plan.has_id(&state.id),
-        None => false,
-    }
+    plans.get(at).is_some_and(|plan| plan.has_id(&state.id))
 }
 
 // Closes the plan with this id, if there is one. It stays in its place.

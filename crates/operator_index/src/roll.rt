@@ -200,7 +200,7 @@ fn ensure_account(
         → AreAccountsOf ls ps accounts.new.entries }
     ensures has_entry { OnOk result (IsSome (account_in operator.now accounts.new.entries)) }
 {
-    if has_account(accounts, operator) {
+    if accounts.contains_key(operator) {
         return Ok(());
     }
     accounts.insert(
@@ -211,13 +211,6 @@ fn ensure_account(
         },
     )?;
     Ok(())
-}
-
-// Whether an operator has an entry.
-fn has_account(accounts: &Accounts, operator: &Operator) -> bool
-    ensures { result ≡ is_some (account_in operator.now accounts.now.entries) }
-{
-    accounts.get(operator).is_some()
 }
 
 // Reserves capacity for one more plan in an operator's entry, if it has one.

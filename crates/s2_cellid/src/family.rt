@@ -16,9 +16,8 @@ impl CellId {
         ensures leaves { (other : GridLeaf) → IsLeaf other →
             IsTrue (cell_has_leaf result other) ↔ (other ≡ leaf) }
     {
-        CellId {
-            id: 2 * position(leaf) + 1,
-        }
+        let id = 2 * position(leaf) + 1;
+        CellId { id }
     }
 
     /// The cell with exactly the leaves of `square`, at the same level.
@@ -29,9 +28,8 @@ impl CellId {
         ensures leaves { (leaf : GridLeaf) → IsLeaf leaf →
             IsTrue (cell_has_leaf result leaf) ↔ LiesInSquare leaf square.now }
     {
-        CellId {
-            id: 2 * square.first() + lowest_bit_for(square.level),
-        }
+        let id = 2 * square.first() + lowest_bit_for(square.level);
+        CellId { id }
     }
 
     /// The cell of `level` that contains this one; at this cell's own level, this cell itself.
@@ -48,9 +46,8 @@ impl CellId {
     {
         let lowest_bit = lowest_bit_for(level);
         let above = !(2 * lowest_bit - 1);
-        CellId {
-            id: (self.id & above) + lowest_bit,
-        }
+        let id = (self.id & above) + lowest_bit;
+        CellId { id }
     }
 
     /// The quarter of this cell that the curve visits at place `k`, 0 to 3. It is one level down.
@@ -67,45 +64,20 @@ impl CellId {
             × ((position_of leaf - first_leaf self.now) / leaf_count (level_of result) ≡ k)) }
     {
         let lowest_bit = self.lowest_bit();
-        CellId {
-            id: self.id - lowest_bit + (2 * u64::from(k) + 1) * (lowest_bit / 4),
-        }
+        let id = self.id - lowest_bit + (2 * u64::from(k) + 1) * (lowest_bit / 4);
+        CellId { id }
     }
 }
 
+// Powers of two, each by its exponent.
+macro_rules! powers {
+    ($($exponent:literal)*) => { [$(1 << $exponent),*] };
+}
+
 // The lowest set bit of the ids of each level. A look-up is faster than a shift by a variable number.
-static LOWEST_BITS: [u64; 31] = [
-    1 << 60,
-    1 << 58,
-    1 << 56,
-    1 << 54,
-    1 << 52,
-    1 << 50,
-    1 << 48,
-    1 << 46,
-    1 << 44,
-    1 << 42,
-    1 << 40,
-    1 << 38,
-    1 << 36,
-    1 << 34,
-    1 << 32,
-    1 << 30,
-    1 << 28,
-    1 << 26,
-    1 << 24,
-    1 << 22,
-    1 << 20,
-    1 << 18,
-    1 << 16,
-    1 << 14,
-    1 << 12,
-    1 << 10,
-    1 << 8,
-    1 << 6,
-    1 << 4,
-    1 << 2,
-    1,
+static LOWEST_BITS: [u64; 31] = powers![
+    60 58 56 54 52 50 48 46 44 42 40 38 36 34 32 30
+    28 26 24 22 20 18 16 14 12 10 8 6 4 2 0
 ];
 
 // The lowest set bit of an id of `level` (S2's `lsb_for_level`).

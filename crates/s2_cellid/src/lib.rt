@@ -119,7 +119,7 @@ impl CellId {
         ensures leaves { IsTrue result ↔ ((leaf : GridLeaf) → IsLeaf leaf →
             IsTrue (cell_has_leaf other.now leaf) → IsTrue (cell_has_leaf self.now leaf)) }
     {
-        self.has_id(other.id)
+        self.first_leaf_id() <= other.id && other.id <= self.last_leaf_id()
     }
 
     /// Whether some leaf belongs to both cells.
@@ -155,16 +155,6 @@ impl CellId {
         ensures valid { IsCellId self.now }
     {
         self.id + (self.lowest_bit() - 1)
-    }
-
-    // Whether `id` lies between the least and the greatest id of the cell's leaves, both included. The ids of
-    // cells inside this one do.
-    fn has_id(&self, id: u64) -> bool
-        ensures range { IsTrue result
-            ↔ IsInRange (first_leaf_id self.now) (last_leaf_id self.now) id }
-        ensures valid { IsCellId self.now }
-    {
-        self.first_leaf_id() <= id && id <= self.last_leaf_id()
     }
 }
 

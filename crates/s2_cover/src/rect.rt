@@ -118,19 +118,13 @@ impl Rect {
         if face >= FACES {
             return Err(RectFault::Face);
         }
-        if !are_coordinates(i_min, i_max) {
+        if !are_coordinates(i_min, i_max) || !are_coordinates(j_min, j_max) {
             return Err(RectFault::Coordinate);
         }
-        if !are_coordinates(j_min, j_max) {
-            return Err(RectFault::Coordinate);
-        }
-        if i_min > i_max {
+        if i_min > i_max || j_min > j_max {
             return Err(RectFault::Order);
         }
-        if j_min > j_max {
-            return Err(RectFault::Order);
-        }
-        if !is_level(level) {
+        if !(MIN_LEVEL..=MAX_LEVEL).contains(&level) {
             return Err(RectFault::Level);
         }
         Ok(Rect {
@@ -192,11 +186,4 @@ fn are_coordinates(least: u32, greatest: u32) -> bool
     ensures { result ≡ (is_coordinate least && is_coordinate greatest) }
 {
     least < FACE_SIDE && greatest < FACE_SIDE
-}
-
-// Whether a rectangle may have this level: 8 to 24.
-fn is_level(level: u8) -> bool
-    ensures { result ≡ is_in_range min_level max_level level }
-{
-    MIN_LEVEL <= level && level <= MAX_LEVEL
 }

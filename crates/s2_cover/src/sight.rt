@@ -2,13 +2,12 @@
 
 ghost use Rattle.std.specs.Prelude.{◌≡◌, ◌≢◌, ℕ, ◌+◌, ◌/◌, ◌^◌, ◌<◌, ◌≤◌};
 ghost use Rattle.s2_hilbert.specs.Grid.{IsSquare};
-ghost use Rattle.s2_hilbert.specs.Grid as grid;
 ghost use Rattle.s2_cover.specs.Covers.{IsRect, widened, is_along, wide_set, IsRangeOverlap, IsSquareOverlap, IsWide};
 ghost use Rattle.s2_cover.specs.Covers as spec;
 ghost use Rattle.s2_cover.specs.declared.sight.Overlap.TheVariants.{Across};
 
 use crate::rect::Rect;
-use s2_hilbert::{LEAF_LEVEL, Square};
+use s2_hilbert::{Square, side_of};
 use std::marker::Model;
 
 /// A rectangle in coordinates of the squares of its level: the squares that it touches, from (`a_min`,
@@ -84,13 +83,6 @@ impl Widened {
             b_max: rect.j_max() / side,
         }
     }
-
-    /// The face of the rectangle.
-    pub(crate) fn face(&self) -> u8
-        ensures { result ≡ self.now.face }
-    {
-        self.face
-    }
 }
 
 /// How `square` overlaps the rectangle `wide`, both on one face; the square's level is at most that of the
@@ -117,10 +109,9 @@ fn combine(i_overlap: Overlap, j_overlap: Overlap) -> Overlap
     ensures { result ≡ spec.combined_overlap i_overlap j_overlap }
 {
     match (i_overlap, j_overlap) {
-        (Overlap::Outside, _) => Overlap::Outside,
-        (Overlap::Inside, _) => j_overlap,
-        (Overlap::Across, Overlap::Outside) => Overlap::Outside,
-        (Overlap::Across, _) => Overlap::Across,
+        (Overlap::Outside, _) | (_, Overlap::Outside) => Overlap::Outside,
+        (Overlap::Inside, Overlap::Inside) => Overlap::Inside,
+        _ => Overlap::Across,
     }
 }
 
@@ -145,13 +136,4 @@ fn compare_range(span: (u32, u32), least: u32, greatest: u32, side: u32) -> Over
         return Overlap::Inside;
     }
     Overlap::Across
-}
-
-// How many leaves a square of a level has along a side.
-fn side_of(level: u8) -> u32
-    requires { level ≤ 30 }
-    ensures value { result ≡ grid.side_of level }
-    ensures some { 0 < result }
-{
-    1 << (LEAF_LEVEL - level)
 }

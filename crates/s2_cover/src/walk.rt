@@ -77,7 +77,7 @@ pub fn cover(alloc: Global, rect: &Rect, limit: u32) -> Result<Cover, CoverFault
     ensures longer { IfErr result (IsLonger (rect_leaves rect.now) limit) }
 {
     let wide = Widened::of_rect(rect);
-    let face = Square::of_face(wide.face());
+    let face = Square::of_face(rect.face());
     let mut cells = Vec::new(alloc);
     let mut looked = 0;
     walk(&wide, &face, limit, &mut cells, &mut looked)?;

@@ -14,8 +14,9 @@ pub fn positions_are_leaves()
     ensures inverse { (leaf : GridLeaf) → IsLeaf leaf → grid_leaf_at (position_of leaf) ≡ leaf }
 {}
 
-/// The positions of a square are exactly those of its leaves, which are the leaves that lie in one
-/// square of its level with any of them.
+/// A leaf lies in a square if and only if its position is from the first to the last one of the square, both
+/// included (`range`). If one leaf lies in a square, another one does if and only if both lie in one square of
+/// that level (`share`).
 pub fn squares_are_ranges()
     ensures range { (leaf : GridLeaf) (square : GridSquare) → IsLeaf leaf → IsSquare square →
         LiesInSquare leaf square

@@ -12,4 +12,4 @@ mod tables;
 
 pub use leaves::{FACE_SIDE, FACES, Leaf, leaf_at, position};
 pub use levels::LEAF_LEVEL;
-pub use squares::Square;
+pub use squares::{Square, side_of};

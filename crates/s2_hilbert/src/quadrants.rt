@@ -15,32 +15,19 @@ pub struct CurveStep {
     pub turn: u8,
 }
 
+// `steps![p t, ..]` is an array of steps, each given by its place and its turn.
+macro_rules! steps {
+    ($($place:literal $turn:literal),*) => {
+        [$(CurveStep { place: $place, turn: $turn }),*]
+    };
+}
+
 // For each orientation, the steps to the quadrants 0 to 3.
 static STEPS: [[CurveStep; 4]; 4] = [
-    [
-        CurveStep { place: 0, turn: 1 },
-        CurveStep { place: 1, turn: 0 },
-        CurveStep { place: 3, turn: 3 },
-        CurveStep { place: 2, turn: 0 },
-    ],
-    [
-        CurveStep { place: 0, turn: 0 },
-        CurveStep { place: 3, turn: 2 },
-        CurveStep { place: 1, turn: 1 },
-        CurveStep { place: 2, turn: 1 },
-    ],
-    [
-        CurveStep { place: 2, turn: 2 },
-        CurveStep { place: 3, turn: 1 },
-        CurveStep { place: 1, turn: 2 },
-        CurveStep { place: 0, turn: 3 },
-    ],
-    [
-        CurveStep { place: 2, turn: 3 },
-        CurveStep { place: 1, turn: 3 },
-        CurveStep { place: 3, turn: 0 },
-        CurveStep { place: 0, turn: 2 },
-    ],
+    steps![0 1, 1 0, 3 3, 2 0],
+    steps![0 0, 3 2, 1 1, 2 1],
+    steps![2 2, 3 1, 1 2, 0 3],
+    steps![2 3, 1 3, 3 0, 0 2],
 ];
 
 // Proves that the constants are the tables of the definitions.

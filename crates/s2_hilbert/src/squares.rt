@@ -150,10 +150,11 @@ fn leaf_count(level: u8) -> u64
     1 << (2 * (LEAF_LEVEL - level))
 }
 
-// How many leaves a square of a level has along a side.
-fn side_of(level: u8) -> u32
-    requires { level ≤ grid.leaf_level }
-    ensures { result ≡ grid.side_of level }
+/// How many leaves a square of `level`, 0 to 30, has along a side.
+pub fn side_of(level: u8) -> u32
+    requires { level ≤ 30 }
+    ensures value { result ≡ grid.side_of level }
+    ensures some { 0 < result }
 {
     1 << (LEAF_LEVEL - level)
 }

@@ -203,10 +203,7 @@ fn cell_of(id: &[u8; 8]) -> Option<CellId>
 fn is_allowed_count(count: usize) -> bool
     ensures { result ≡ within_cells count }
 {
-    if count == 0 {
-        return false;
-    }
-    count <= MAX_CELLS
+    (1..=MAX_CELLS).contains(&count)
 }
 
 // The rectangle whose bytes after the first, the byte 2, are `bytes`; `None` if they are not those of one.

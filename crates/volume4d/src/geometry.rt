@@ -27,13 +27,7 @@ impl Slab {
     pub fn overlaps(&self, other: &Slab) -> bool
         ensures { result ≡ spec.overlap self.now other.now }
     {
-        if !meet_in_time(self, other) {
-            return false;
-        }
-        if !meet_in_height(self, other) {
-            return false;
-        }
-        meet_on_ground(self, other)
+        meet_in_time(self, other) && meet_in_height(self, other) && meet_on_ground(self, other)
     }
 
     /// The smallest slab round this one and another: the lesser of each two lower bounds, and the greater of

@@ -141,12 +141,7 @@ fn add_lane<'a>(
 fn has_lane(lanes: &[Lane], slab: &Slab) -> bool
     ensures { result ≡ list_any (λ l. is_alike l.window slab.now) lanes.now }
 {
-    for lane in lanes {
-        if are_alike(&lane.window, slab) {
-            return true;
-        }
-    }
-    false
+    lanes.iter().any(|lane| are_alike(&lane.window, slab))
 }
 
 // Whether two slabs have the same altitudes and seconds.
@@ -256,10 +251,7 @@ fn is_skipped(window: &Slab, slab: &Slab, position: u64) -> bool
         → (is_alike window.now slab.now && slab_has slab.now x) ≡ false }
     ensures reached { result ≡ false → IsReached window.now position slab.now }
 {
-    if ends_before(slab, position) {
-        return true;
-    }
-    !are_alike(window, slab)
+    ends_before(slab, position) || !are_alike(window, slab)
 }
 
 // The first point that the slabs `left` with this window share with `other`. The first of them reaches
@@ -291,10 +283,7 @@ fn compare_if_begun(slab: &Slab, other: &Slab, pairs: &mut u128) -> Option<Corne
 fn is_after(position: u64, first: &Option<Corner>) -> bool
     ensures { IsTrue result → AreLate position first.now }
 {
-    match first {
-        Some(corner) => is_beyond(position, corner),
-        None => false,
-    }
+    first.is_some_and(|corner| is_beyond(position, &corner))
 }
 
 // Whether `position` is after the leaf of the point `corner`.
@@ -311,10 +300,7 @@ fn ends_before(slab: &Slab, position: u64) -> bool
     ensures some { result ≡ false → slab.now.first ≤ slab.now.last }
     ensures reaches { result ≡ false → position ≤ slab.now.last }
 {
-    if slab.last < slab.first {
-        return true;
-    }
-    slab.last < position
+    slab.last < slab.first || slab.last < position
 }
 
 // The first shared point of two lists in any order. Compares each pair.

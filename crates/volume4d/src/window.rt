@@ -148,13 +148,7 @@ impl Window {
 fn are_altitudes(lower: i32, upper: i32) -> bool
     ensures value { result ≡ within_altitudes lower upper }
 {
-    if lower < MIN_ALTITUDE {
-        return false;
-    }
-    if lower >= upper {
-        return false;
-    }
-    upper <= MAX_ALTITUDE
+    MIN_ALTITUDE <= lower && lower < upper && upper <= MAX_ALTITUDE
 }
 
 // Whether Unix seconds are in order and within the limits.
@@ -162,13 +156,7 @@ fn are_times(start: i64, end: i64) -> bool
     ensures value { result ≡ within_times start end }
     ensures bounds { IsTrue result → (pos 0 ≤ℤ start) × (start <ℤ end) }
 {
-    if start < 0 {
-        return false;
-    }
-    if start >= end {
-        return false;
-    }
-    end <= MAX_SECOND
+    0 <= start && start < end && end <= MAX_SECOND
 }
 
 // Whether the time from `start` to `end`, in seconds, is within the limit of a day.

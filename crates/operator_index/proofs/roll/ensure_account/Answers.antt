@@ -9,7 +9,7 @@ pub returns-clause-kept : goal.returns-clause-kept
 returns-clause-kept c = λ ls ps h.
     let o = c.args.operator.now in
     let old = c.args.accounts.now.entries in
-    let none = absent (account_in o old) c.if-has_account.ensures in
+    let none = absent (account_in o old) c.if-contains_key.ensures in
     let made : OperatorEntry = record { ceiling = None; plans = c.new.result } in
     written_same o old c.insert.new.self.entries made ls ps
     (record { each = c.in_ok-insert.ensures.updates.0 })

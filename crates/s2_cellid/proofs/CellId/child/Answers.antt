@@ -5,13 +5,13 @@ use Rattle.s2_cellid.proofs.lemmas.Block.{ends_of}
 use Rattle.s2_cellid.proofs.lemmas.Family.{child_cell, child_cell_has, count_room}
 use Rattle.s2_cellid.proofs.CellId.child.Goals as goal
 
-pub overflow_sub-result : goal.overflow_sub-result
-overflow_sub-result c =
+pub overflow_sub-id : goal.overflow_sub-id
+overflow_sub-id c =
     rw (c.lowest_bit-lowest_bit.ensures, ← c.self.view_is)
     (ends_of c.self.inside.id c.self.invariant).unit_within
 
-pub overflow_add-result-2 : goal.overflow_add-result-2
-overflow_add-result-2 c =
+pub overflow_add-id-2 : goal.overflow_add-id-2
+overflow_add-id-2 c =
     let below : level_of c.self.inside.id < 30 = rw (← c.self.view_is) at c.requires.level in
     let cell = child_cell c.args.k c.self.inside.id c.self.invariant c.requires.k below in
     rw (c.lowest_bit-lowest_bit.ensures, c.from.ensures, ← c.self.view_is)

@@ -8,8 +8,8 @@ lowest_is : (c : goal.After-lowest_bit_for) → c.lowest_bit_for.result ≡ leaf
 lowest_is c = c.lowest_bit_for.ensures ∙ ap
     (λ (square : GridSquare). leaf_count square.level) c.square.view_is
 
-pub overflow_add-result : goal.overflow_add-result
-overflow_add-result c = rw (lowest_is c) (omega
+pub overflow_add-id : goal.overflow_add-id
+overflow_add-id c = rw (lowest_is c) (omega
     (arith, c.first.ensures.below, count_room c.args.square.now.level))
 
 pub invariant_of-result : goal.invariant_of-result

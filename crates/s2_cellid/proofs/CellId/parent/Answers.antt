@@ -9,8 +9,8 @@ overflow_mul-above c = rw c.lowest_bit_for-lowest_bit.ensures (omega (arith, cou
 pub overflow_sub-above : goal.overflow_sub-above
 overflow_sub-above c = rw c.lowest_bit_for-lowest_bit.ensures (omega (arith, count_room c.args.level))
 
-pub overflow_add-result : goal.overflow_add-result
-overflow_add-result c =
+pub overflow_add-id : goal.overflow_add-id
+overflow_add-id c =
     let cell = parent_cell c.args.level c.self.inside.id c.self.invariant (omega (arith, c.requires)) in
     rw (c.lowest_bit_for-lowest_bit.ensures, kept_above c.args.level c.self.inside.id c.self.invariant)
     (omega (arith, cell.id_is, cell.within, count_room c.args.level))

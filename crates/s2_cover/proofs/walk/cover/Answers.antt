@@ -1,16 +1,22 @@
-use Rattle.std.proofs.Common.{◌-◌, ◌+◌, [], length, sym, ◌∙◌, ap, subst, arith}
+use Rattle.std.proofs.Common.{◌≡◌, ℕ, ◌-◌, ◌+◌, [], length, sym, ◌∙◌, ap, subst, arith}
 use Rattle.s2_hilbert.specs.Curve.{first_position}
 use Rattle.s2_cellid.specs.Cell.{square_id}
-use Rattle.s2_cover.specs.Covers.{leaves_of, IsCanonical, IsLonger, IsLaid, rect_leaves, wide_set, IsOpened, IsRefused, HasCompared}
+use Rattle.s2_cover.specs.Covers.{RectParts, WideParts, widened, leaves_of, IsCanonical, IsLonger, IsLaid, rect_leaves, wide_set, IsOpened, IsRefused, HasCompared}
 use Rattle.s2_cover.proofs.Listing.{same_list, longer}
 use Rattle.s2_cover.proofs.Faces.{whole, laid_before, whole_opened, IsCovered, covered, refused, covers_footprint, some_cells}
 use Rattle.s2_cover.proofs.Walks.{if_err}
 use Rattle.s2_cover.proofs.walk.cover.Goals as goal
 
+-- the face of a rectangle is that of the widened one
+face_is : (rect : RectParts) (wide : WideParts) (face : ℕ) → face ≡ rect.face → wide ≡ widened rect
+    → face ≡ wide.face
+face_is rect wide face is same = is ∙ sym (ap (λ (w : WideParts). w.face) same)
+
 pub walk-requires-clause-laid : goal.walk-requires-clause-laid
 walk-requires-clause-laid c =
     let wide = c.of_rect-wide.result in
-    let square = c.of_face-face.ensures ∙ ap whole c.face.ensures in
+    let square = c.of_face-face.ensures ∙ ap whole
+    (face_is c.args.rect.now wide c.face.result c.face.ensures c.of_rect-wide.ensures.value) in
     subst (λ ids. IsLaid (wide_set wide) ids (first_position c.of_face-face.result))
     (sym c.new-cells.ensures.items)
     (subst (λ s. IsLaid (wide_set wide) [] (first_position s)) (sym square) (laid_before wide))
@@ -18,7 +24,8 @@ walk-requires-clause-laid c =
 pub walk-requires-clause-opened : goal.walk-requires-clause-opened
 walk-requires-clause-opened c =
     let wide = c.of_rect-wide.result in
-    let square = c.of_face-face.ensures ∙ ap whole c.face.ensures in
+    let square = c.of_face-face.ensures ∙ ap whole
+    (face_is c.args.rect.now wide c.face.result c.face.ensures c.of_rect-wide.ensures.value) in
     subst (λ s. IsOpened (wide_set wide) (square_id s)) (sym square)
     (whole_opened (wide_set wide) wide.face c.of_rect-wide.ensures.valid.face)
 
@@ -39,7 +46,8 @@ found : (c : goal.In_ok-walk)
     → IsCovered (rect_leaves c.args.rect.now) c.args.limit c.walk.new.cells.items c.walk.new.looked
 found c =
     let wide = c.of_rect-wide.result in
-    let square = c.of_face-face.ensures ∙ ap whole c.face.ensures in
+    let square = c.of_face-face.ensures ∙ ap whole
+    (face_is c.args.rect.now wide c.face.result c.face.ensures c.of_rect-wide.ensures.value) in
     subst (λ w. IsCovered (wide_set w) c.args.limit c.walk.new.cells.items c.walk.new.looked)
     c.of_rect-wide.ensures.value
     (covered wide c.of_face-face.result c.args.limit c.walk.new.looked c.new-cells.result.items
