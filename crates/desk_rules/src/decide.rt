@@ -1,10 +1,10 @@
 //! The verdict on a request, by the order of refusals.
 
-ghost use Rattle.std.specs.Prelude.{◌≡◌, ◌∷◌, [], ◌&&◌, None, pos, ◌+ℤ◌, ◌-ℤ◌, int_le, int_lt, nat_le, nat_lt, is_none};
+ghost use Rattle.std.specs.Prelude.{◌≡◌, ◌∷◌, [], ◌&&◌, None, pos, ◌+ℤ◌, ◌-ℤ◌, int_lt, nat_le, nat_lt, is_none};
 ghost use Rattle.std.specs.Option.{option_copied};
 ghost use Rattle.desk_rules.specs.declared.words.Note.TheVariants as notes;
 ghost use Rattle.desk_rules.specs.declared.words.PlanResult.TheVariants as results;
-ghost use Rattle.desk_rules.specs.Outcome.{outcome, outcome_under, has_ended, is_beyond_horizon, step_status, step_effect, styled_effect, note_from, first_note, note_where, refused_result, shown_conflict, status_in_use, is_offered};
+ghost use Rattle.desk_rules.specs.Outcome.{outcome, outcome_under, has_ended, is_beyond_horizon, step_status, step_effect, styled_effect, note_from, first_note, note_where, refused_result, shown_conflict, is_offered};
 ghost use Rattle.desk_rules.specs.Limits.{max_plans, max_ahead};
 ghost use Rattle.desk_rules.specs.Outcome as spec;
 
@@ -159,14 +159,10 @@ fn note_for(
             if let Some(note) = over_limit(call.priority, stored, standing) {
                 return Some(note);
             }
-            if blocked {
-                return Some(Note::Conflict);
-            }
-            None
+            blocked.then_some(Note::Conflict)
         }
         Step::Report(_) => over_limit(call.priority, stored, standing),
-        Step::Shut => None,
-        Step::Keep => None,
+        Step::Shut | Step::Keep => None,
     }
 }
 
@@ -197,10 +193,7 @@ fn over_limit(priority: u32, stored: Option<States>, standing: &Standing) -> Opt
 fn is_full(stored: Option<States>, own_rows: u32) -> bool
     ensures { result ≡ (is_none stored && nat_le max_plans own_rows) }
 {
-    match stored {
-        None => own_rows >= MAX_PLANS,
-        Some(_) => false,
-    }
+    stored.is_none() && own_rows >= MAX_PLANS
 }
 
 // Whether the desk supports the style for the requested states. `InReality` reports what has happened: that
@@ -209,8 +202,8 @@ fn is_offered(style: Style, usage: Usage, aircraft: Aircraft) -> bool
     ensures { result ≡ is_offered style usage aircraft }
 {
     match (style, usage, aircraft) {
-        (Style::InReality, Usage::Planned, _) => false,
-        (Style::InReality, Usage::InUse, Aircraft::Nominal) => false,
+        (Style::InReality, Usage::Planned, _)
+        | (Style::InReality, Usage::InUse, Aircraft::Nominal) => false,
         (_, _, _) => true,
     }
 }
@@ -220,14 +213,17 @@ fn is_offered(style: Style, usage: Usage, aircraft: Aircraft) -> bool
 fn any_ended(volumes: &[Volume], moment: i64) -> bool
     ensures { result ≡ has_ended volumes.now moment }
 {
-    volumes.iter().any(|volume| ends_by(volume, moment))
+    volumes.iter().any(|volume| volume.window().end() <= moment)
 }
 
-// Whether a volume ends at or before `moment`.
-fn ends_by(volume: &Volume, moment: i64) -> bool
-    ensures { result ≡ int_le volume.now.window.end moment }
+// Whether some volume starts more than `HORIZON` seconds after `moment`.
+#[tactic(auto, unfolding(crate::specs::Outcome::is_beyond_horizon))]
+fn any_beyond_horizon(volumes: &[Volume], moment: i64) -> bool
+    ensures { result ≡ is_beyond_horizon volumes.now moment }
 {
-    volume.window().end() <= moment
+    volumes
+        .iter()
+        .any(|volume| starts_beyond_horizon(volume, moment))
 }
 
 // Whether a volume starts more than `HORIZON` seconds after `moment`.
@@ -243,16 +239,6 @@ fn earliest_request(volume: &Volume) -> i64
     ensures { result ≡ volume.now.window.start -ℤ pos max_ahead }
 {
     volume.window().start() - HORIZON
-}
-
-// Whether some volume starts more than `HORIZON` seconds after `moment`.
-#[tactic(auto, unfolding(crate::specs::Outcome::is_beyond_horizon))]
-fn any_beyond_horizon(volumes: &[Volume], moment: i64) -> bool
-    ensures { result ≡ is_beyond_horizon volumes.now moment }
-{
-    volumes
-        .iter()
-        .any(|volume| starts_beyond_horizon(volume, moment))
 }
 
 // The result of a request that is refused for the reason `note`.
@@ -276,23 +262,14 @@ pub fn status_of(stored: Option<&PlanRow>) -> PlanStatus
 pub fn status_from(stored: Option<States>) -> PlanStatus
     ensures { result ≡ spec.status_from stored }
 {
-    match stored {
-        None => PlanStatus::NotPlanned,
-        Some(states) => match states.usage {
-            Usage::Planned => PlanStatus::Planned,
-            Usage::InUse => status_in_use(states.aircraft),
-            Usage::Closed => PlanStatus::Closed,
-        },
-    }
-}
-
-// The status of a plan in use: `OkToFly` if its aircraft keeps to the plan, else `OffNominal`.
-fn status_in_use(aircraft: Aircraft) -> PlanStatus
-    ensures { result ≡ status_in_use aircraft }
-{
-    match aircraft {
-        Aircraft::Nominal => PlanStatus::OkToFly,
-        _ => PlanStatus::OffNominal,
+    let Some(states) = stored else {
+        return PlanStatus::NotPlanned;
+    };
+    match (states.usage, states.aircraft) {
+        (Usage::Planned, _) => PlanStatus::Planned,
+        (Usage::InUse, Aircraft::Nominal) => PlanStatus::OkToFly,
+        (Usage::InUse, _) => PlanStatus::OffNominal,
+        (Usage::Closed, _) => PlanStatus::Closed,
     }
 }
 
@@ -302,10 +279,8 @@ fn status_after(step: Step) -> PlanStatus
 {
     match step {
         Step::Refuse(_) => PlanStatus::NotPlanned,
-        Step::Check(status) => status,
-        Step::Report(status) => status,
-        Step::Shut => PlanStatus::Closed,
-        Step::Keep => PlanStatus::Closed,
+        Step::Check(status) | Step::Report(status) => status,
+        Step::Shut | Step::Keep => PlanStatus::Closed,
     }
 }
 
@@ -317,11 +292,9 @@ fn effect_of(style: Style, step: Step) -> Effect
         return Effect::Nothing;
     }
     match step {
-        Step::Refuse(_) => Effect::Nothing,
-        Step::Check(_) => Effect::Save,
-        Step::Report(_) => Effect::Save,
+        Step::Refuse(_) | Step::Keep => Effect::Nothing,
+        Step::Check(_) | Step::Report(_) => Effect::Save,
         Step::Shut => Effect::Shut,
-        Step::Keep => Effect::Nothing,
     }
 }
 

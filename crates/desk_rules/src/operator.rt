@@ -136,13 +136,7 @@ impl Ord for Operator {
 fn is_name(name: &[u8]) -> bool
     ensures { result ≡ is_operator_name name.now }
 {
-    if name.is_empty() {
-        return false;
-    }
-    if name.len() > MAX_NAME {
-        return false;
-    }
-    are_name_bytes(name)
+    !name.is_empty() && name.len() <= MAX_NAME && are_name_bytes(name)
 }
 
 // Whether each of `bytes` is `a-z`, `0-9` or `-`.

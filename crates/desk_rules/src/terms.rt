@@ -76,8 +76,5 @@ impl Terms {
 fn exceeds(limit: Option<u32>, count: u64) -> bool
     ensures { result ≡ spec.exceeds limit count }
 {
-    match limit {
-        Some(most) => count > u64::from(most),
-        None => false,
-    }
+    limit.is_some_and(|most| count > u64::from(most))
 }

@@ -2,7 +2,7 @@
 
 ghost use Rattle.std.specs.Prelude.{◌≡◌};
 ghost use Rattle.std.specs.Option.{option_copied};
-ghost use Rattle.desk_rules.specs.Outcome.{step_of, step_from, step_from_none, step_from_planned, step_from_use, step_from_contingency, step_from_closed, step_from_states};
+ghost use Rattle.desk_rules.specs.Outcome.{step_of, step_from, step_from_none, step_from_planned, step_from_use, step_from_contingency, step_from_closed};
 
 use crate::plan::{PlanRow, PutCall, States, states_of};
 use crate::words::{Aircraft, Note, PlanStatus, Usage};
@@ -37,18 +37,11 @@ pub fn transition(stored: Option<&PlanRow>, call: &PutCall) -> Step
 pub fn transition_from(stored: Option<States>, call: &PutCall) -> Step
     ensures { result ≡ step_from stored call.now }
 {
-    match stored {
-        None => from_none(call.usage, call.aircraft),
-        Some(states) => from_states(states.usage, states.aircraft, call.usage, call.aircraft),
-    }
-}
-
-// The step from a stored plan with the states `old_usage` and `old_aircraft` to the requested states `usage`
-// and `aircraft`.
-fn from_states(old_usage: Usage, old_aircraft: Aircraft, usage: Usage, aircraft: Aircraft) -> Step
-    ensures { result ≡ step_from_states old_usage old_aircraft usage aircraft }
-{
-    match (old_usage, old_aircraft) {
+    let (usage, aircraft) = (call.usage, call.aircraft);
+    let Some(old) = stored else {
+        return from_none(usage, aircraft);
+    };
+    match (old.usage, old.aircraft) {
         (Usage::Planned, _) => from_planned(usage, aircraft),
         (Usage::InUse, Aircraft::Contingent) => from_contingency(usage, aircraft),
         (Usage::InUse, _) => from_use(usage, aircraft),

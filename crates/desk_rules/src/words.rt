@@ -20,11 +20,7 @@ impl Usage {
     pub fn is_live(&self) -> bool
         ensures { result ≡ spec.is_live self.now }
     {
-        match self {
-            Usage::Planned => true,
-            Usage::InUse => true,
-            Usage::Closed => false,
-        }
+        matches!(self, Usage::Planned | Usage::InUse)
     }
 }
 

@@ -1,7 +1,7 @@
 -- What an operator's plans hold among each other, slab by slab and plan by plan.
 use Rattle.std.proofs.Common.{◌≡◌, ℕ, ◌+◌, ◌≤◌, ◌<◌, Bool, true, false, true≢false, ◌&&◌, ◌||◌, not, cond, List, [], ◌∷◌, ◌++◌, suc, length, map, get_or, take, drop, Option, Some, None, refl, sym, ap, subst, ◌∙◌, arith}
 use Rattle.std.specs.Prelude.{nat_le, max, slice_get}
-use Rattle.std.specs.List.{filter}
+use Rattle.std.specs.List.{filter, list_any}
 use Rattle.std.proofs.lemmas.Bool.{and_parts}
 use Rattle.std.proofs.lemmas.Bool.Decides.{nat_tests}
 use Rattle.std.proofs.lemmas.List.{take_more, drop_more}
@@ -22,6 +22,7 @@ use Rattle.desk_rules.specs.Outcome.{is_live, row_holds, top_priority}
 use Rattle.desk_rules.proofs.lemmas.Plan.{top_priority-cons, top_priority-nil}
 use Rattle.desk_rules.specs.declared.reply.Shown.{Shown}
 use Rattle.desk_store.specs.World.{World, has_id, held, held_at, plans_of}
+use Rattle.desk_store.proofs.PlanLemmas.{overlaps_at}
 use Rattle.desk_store.proofs.lemmas.Rival.{at_least_greater}
 use Rattle.desk_run.specs.HeldAmong.{AreSlabsHeld, AreLeft, AreAfter, HaveAll, HaveLevelAt, own_level, own_top, some_hold}
 use Rattle.desk_run.specs.Verdicts.{shown_in, shown_plan}
@@ -174,17 +175,12 @@ apart_bounds slab bounds x apart has = go (slab_has slab x) refl where
   go false e = refl
 
 -- nor one that overlaps none of some others a point of these
-pub apart_more : (slab part : Slab) (parts : List Slab) (i : ℕ) → i < length parts
-    → part ≡ get_or parts i part → overlap slab part ≡ false
-    → ((x : Point) → slabs_have (take i parts) x ≡ true → slab_has slab x ≡ false) → (x : Point)
-    → slabs_have (take (i + 1) parts) x ≡ true → slab_has slab x ≡ false
-apart_more slab part parts i below is apart so_far x has =
-    go (slabs_have (take i parts) x) refl (sym (list_any_more (λ s. slab_has s x) parts i part below
-    ∙ ap (λ s. slabs_have (take i parts) x || slab_has s x) (sym is)) ∙ has) where
-      go : (b : Bool) → slabs_have (take i parts) x ≡ b → (b || slab_has part x) ≡ true
-          → slab_has slab x ≡ false
-      go true e h = so_far x e
-      go false e h = apart_bounds slab part x apart h
+pub apart_all : (slab : Slab) (parts : List Slab) (x : Point) → list_any (overlap slab) parts ≡ false
+    → slabs_have parts x ≡ true → slab_has slab x ≡ false
+apart_all slab parts x apart has = go (slab_has slab x) refl where
+  go : (b : Bool) → slab_has slab x ≡ b → b ≡ false
+  go true e = absurd (true≢false (sym (overlaps_at slab parts x e has) ∙ apart))
+  go false e = refl
 
 or_true : (b : Bool) → (b || true) ≡ true
 or_true true = refl

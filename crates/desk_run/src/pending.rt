@@ -57,10 +57,7 @@ impl Pending {
     pub fn copy(&self) -> Result<Pending, AllocError>
         ensures { IfOk result (λ copy. IsSamePending self.now copy) }
     {
-        let change = match &self.change {
-            Some(change) => Some(change.copy()?),
-            None => None,
-        };
+        let change = self.change.as_ref().map(Change::copy).transpose()?;
         Ok(Pending {
             reply: self.reply.copy()?,
             change,

@@ -84,7 +84,20 @@ impl<S: PlanStore> Desk<S> {
         ensures cause { IfOk result (λ ran. ran.stopped ≡ Some DeskFault.Store →
             HasRisen (S.faults self.old.store) (S.faults self.new.store)) }
     {
-        run_over(alloc, self, calls)
+        let mut outcomes = Vec::with_capacity(alloc, calls.len())?;
+        for (moment, asked) in calls {
+            match outcome_of(self.call(alloc, *moment, asked)) {
+                Ok(outcome) => outcomes.push_reserved(outcome),
+                Err(fault) => return Ok(Ran {
+                    outcomes,
+                    stopped: Some(fault),
+                }),
+            }
+        }
+        Ok(Ran {
+            outcomes,
+            stopped: None,
+        })
     }
 }
 
@@ -97,37 +110,6 @@ fn copies(outcomes: &Vec<Outcome>) -> Result<Vec<Outcome>, AllocError>
         copies.push(outcome.copy()?)?;
     }
     Ok(copies)
-}
-
-// Answers `calls` at `desk`, as `Desk::run` says.
-fn run_over<S: PlanStore>(
-    alloc: Global,
-    desk: &mut Desk<S>,
-    calls: &[(i64, Asked)],
-) -> Result<Ran, AllocError>
-    ensures ran { IsHonest (S.doubt desk.new.store) → IfOk result (λ ran.
-        IsRun (world_of S.content desk.old) calls.now ran (world_of S.content desk.new)) }
-    ensures kept { IfOk result (λ ran. FindsOnly S.PlanStore desk.old desk.new
-        (IsFoundIn (world_of S.content desk.old) calls.now (length ran.outcomes.items))) }
-    ensures err { OnErr result (desk.new ≡ desk.old) }
-    ensures remembered { Remembers S.doubt S.faults S.is_shielded desk.old.store desk.new.store }
-    ensures cause { IfOk result (λ ran. ran.stopped ≡ Some DeskFault.Store →
-        HasRisen (S.faults desk.old.store) (S.faults desk.new.store)) }
-{
-    let mut outcomes = Vec::with_capacity(alloc, calls.len())?;
-    for (moment, asked) in calls {
-        match outcome_of(desk.call(alloc, *moment, asked)) {
-            Ok(outcome) => outcomes.push_reserved(outcome),
-            Err(fault) => return Ok(Ran {
-                outcomes,
-                stopped: Some(fault),
-            }),
-        }
-    }
-    Ok(Ran {
-        outcomes,
-        stopped: None,
-    })
 }
 
 // The outcome of a call that returned `answered`, or the error that stops a run: `OutOfMemory` or `Store`.

@@ -43,18 +43,12 @@ impl Change {
         ensures { IfOk result (λ copy. parts_in copy ≡ parts_in self.now) }
     {
         match self {
-            Change::Enrol { operator, ceiling } => Ok(Change::Enrol {
-                operator: *operator,
-                ceiling: *ceiling,
-            }),
+            &Change::Enrol { operator, ceiling } => Ok(Change::Enrol { operator, ceiling }),
             Change::Put { operator, row } => Ok(Change::Put {
                 operator: *operator,
                 row: row.copy()?,
             }),
-            Change::Close { operator, id } => Ok(Change::Close {
-                operator: *operator,
-                id: *id,
-            }),
+            &Change::Close { operator, id } => Ok(Change::Close { operator, id }),
             Change::Clear { operator, ids } => Ok(Change::Clear {
                 operator: *operator,
                 ids: ids.clone()?,

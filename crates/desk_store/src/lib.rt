@@ -12,6 +12,6 @@ mod store;
 
 pub use change::Change;
 pub use fault::StoreFault;
-pub use list::ListStore;
+pub use list::{ListStore, in_order};
 pub use sizes::Sizes;
 pub use store::PlanStore;

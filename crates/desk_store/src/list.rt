@@ -220,18 +220,16 @@ type Plans = BTreeMap<(Operator, PlanId), Plan>;
 fn ceiling_in(operators: &Operators, operator: &Operator) -> Option<u32>
     ensures { result ≡ ceiling_at operator.now operators.now.entries }
 {
-    let enrolment = operators.get(operator)?;
-    Some(enrolment.ceiling)
+    operators.get(operator).map(|enrolment| enrolment.ceiling)
 }
 
 // The number of plans in the operator's entry; 0 if it is not enrolled.
 fn count_in(operators: &Operators, operator: &Operator) -> u32
     ensures { result ≡ count_at operator.now operators.now.entries }
 {
-    match operators.get(operator) {
-        Some(enrolment) => enrolment.plan_count,
-        None => 0,
-    }
+    operators
+        .get(operator)
+        .map_or(0, |enrolment| enrolment.plan_count)
 }
 
 // Sets the number of plans in the operator's entry, if it is enrolled.
@@ -348,8 +346,9 @@ fn rivals_of(
     Ok(in_order(helds))
 }
 
-// Sorts slabs by their first leaves. The greatest priority at each point stays.
-fn in_order(mut helds: Vec<Held>) -> Vec<Held>
+/// Sorts slabs by their first leaves, so that one pass can compare them with a plan's. The greatest priority
+/// at each point stays.
+pub fn in_order(mut helds: Vec<Held>) -> Vec<Held>
     ensures same { (x : Point) → top_held result.items x ≡ top_held helds.items x }
     ensures order { IsNonDecreasingBy (λ h. h.slab.first) result.items }
 {
@@ -381,6 +380,7 @@ fn push_rival(
 }
 
 // All slabs of the live plans of other operators, inside and outside `extents`; none if there are no extents.
+// `alloc` holds the list. `AllocError` if memory runs out.
 fn others_in(
     alloc: Global,
     plans: &Plans,
@@ -393,14 +393,6 @@ fn others_in(
     if extents.is_empty() {
         return Ok(Vec::new(alloc));
     }
-    others_of(alloc, plans, operator)
-}
-
-// The slabs of the live plans of other operators, from `alloc`; `AllocError` if memory runs out.
-fn others_of(alloc: Global, plans: &Plans, operator: &Operator) -> Result<Vec<Held>, AllocError>
-    ensures { IfOk result (λ helds. (x : Point) →
-        top_held helds.items x ≡ others_top operator.now (filed_all plans.now.entries) x) }
-{
     let mut helds = Vec::new(alloc);
     for (key, plan) in plans {
         push_other(&mut helds, operator, key, plan)?;
@@ -436,10 +428,7 @@ fn is_own(operator: &Operator, id: &PlanId, key: &(Operator, PlanId)) -> bool
     ensures { result ≡
         (is_eq (text_cmp operator.now key.now.0) && is_eq (text_cmp id.now key.now.1)) }
 {
-    if !is_by(operator, key) {
-        return false;
-    }
-    id.cmp(&key.1).is_eq()
+    is_by(operator, key) && id.cmp(&key.1).is_eq()
 }
 
 // Whether the plan with this key is one of the operator's plans with these ids.

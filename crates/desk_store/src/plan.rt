@@ -122,10 +122,7 @@ impl Plan {
     pub fn is_rival(&self, least: u32) -> bool
         ensures { result ≡ (is_live self.now.usage && nat_le least self.now.priority) }
     {
-        if !self.usage.is_live() {
-            return false;
-        }
-        self.priority >= least
+        self.usage.is_live() && self.priority >= least
     }
 
     /// Appends the slabs of the plan's area that overlap one of `extents`, with its priority.

@@ -2,7 +2,7 @@
 ghost use Rattle.std.specs.Prelude.{◌≡◌, IfOk, codes};
 ghost use Rattle.serde_json.specs.{Data.object, Data.member, View.view};
 ghost use Rattle.desk_rules.specs.Outcome.{said_in};
-ghost use Rattle.desk_writing.specs.ReplyText.{error_data, cleared_data, conflict_data, outcome_members, put_data, ready_data, reply_data};
+ghost use Rattle.desk_writing.specs.ReplyText.{error_data, cleared_data, conflict_data, outcome_members, put_data, reply_data};
 
 use crate::shown_out::{plans_value, shown_value};
 use crate::words::{notes_text, result_word, status_word};
@@ -17,7 +17,7 @@ pub fn reply_value(alloc: Global, reply: &Reply) -> Result<Value, AllocError>
     ensures { IfOk result (λ v. view v ≡ reply_data (said_in reply.now)) }
 {
     match reply {
-        Reply::Ready => ready_value(alloc),
+        Reply::Ready => json!(in alloc; {"status": "Ready"}),
         Reply::Plans(plans) => plans_value(alloc, plans),
         Reply::Plan(shown) => shown_value(alloc, shown),
         Reply::Answered(put) => put_value(alloc, *put),
@@ -30,13 +30,6 @@ pub fn error_value(alloc: Global, word: &str) -> Result<Value, AllocError>
     ensures { IfOk result (λ v. view v ≡ error_data word.now) }
 {
     json!(in alloc; {"error": word})
-}
-
-// The body of the answer to `GET /status`.
-fn ready_value(alloc: Global) -> Result<Value, AllocError>
-    ensures { IfOk result (λ v. view v ≡ ready_data) }
-{
-    json!(in alloc; {"status": "Ready"})
 }
 
 // The body of the answer to a clear that removed `count` plans.
@@ -96,8 +89,12 @@ fn outcome_with_conflict_value(
     })
 }
 
-/// The `conflict` of a plan: its first blocked point, whose leaf cell `cell` names by its S2 token, and the
-/// greatest priority held there.
+/// The value of the JSON member `conflict`: a point, by its altitude in decimetres, its Unix second and the S2
+/// token of its leaf cell (`cell`), and the greatest priority that is held there.
+///
+/// # Errors
+///
+/// `AllocError` if memory runs out.
 pub fn conflict_value(alloc: Global, meeting: Meeting) -> Result<Value, AllocError>
     ensures { IfOk result (λ v. view v ≡ conflict_data meeting) }
 {

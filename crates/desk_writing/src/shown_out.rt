@@ -31,8 +31,7 @@ pub fn shown_value(alloc: Global, shown: &Shown) -> Result<Value, AllocError>
     let area = area_value(alloc, &shown.row.area)?;
     match shown.conflict {
         Some(meeting) => {
-            let conflict = conflict_value(alloc, meeting)?;
-            plan_with_conflict_value(alloc, shown, area, conflict)
+            plan_with_conflict_value(alloc, shown, area, conflict_value(alloc, meeting)?)
         }
         None => plan_value(alloc, shown, area),
     }
@@ -94,12 +93,10 @@ fn volume_value(alloc: Global, volume: &Volume) -> Result<Value, AllocError>
 {
     match volume.footprint() {
         Footprint::Cells(cells) => {
-            let cells = cells_value(alloc, cells)?;
-            cells_volume_value(alloc, volume.window(), cells)
+            cells_volume_value(alloc, volume.window(), cells_value(alloc, cells)?)
         }
         Footprint::Rectangle(rect) => {
-            let rectangle = rectangle_value(alloc, rect)?;
-            rectangle_volume_value(alloc, volume, rectangle)
+            rectangle_volume_value(alloc, volume, rectangle_value(alloc, rect)?)
         }
     }
 }

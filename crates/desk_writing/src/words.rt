@@ -52,10 +52,7 @@ fn note_word(note: Note) -> &'static str
 pub fn notes_text(note: Option<Note>) -> &'static str
     ensures { result.now ≡ words.notes_text note }
 {
-    match note {
-        Some(note) => note_word(note),
-        None => "",
-    }
+    note.map_or("", note_word)
 }
 
 /// The value of `usage_state` in an answer.

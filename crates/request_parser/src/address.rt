@@ -28,15 +28,11 @@ pub struct Address<'t> {
 pub fn read_address<'t>(head: &Head<'t>) -> Result<Address<'t>, WireFault>
     ensures { Gives address_shown result (address_of head.now) }
 {
-    let Some(target) = find_target(head.target()) else {
-        return Err(WireFault::NoRoute);
-    };
+    let target = find_target(head.target()).ok_or(WireFault::NoRoute)?;
     let Some(action) = target.route.action(head.method()) else {
         return Err(WireFault::Method(target.route));
     };
-    let Some(operator) = find_operator(head) else {
-        return Err(WireFault::BadOperator);
-    };
+    let operator = find_operator(head).ok_or(WireFault::BadOperator)?;
     Ok(Address {
         action,
         operator,

@@ -38,9 +38,7 @@ pub struct Front<'t> {
 pub fn read_message(text: &[u8]) -> Result<Message<'_>, WireFault>
     ensures { message_read result ≡ message_in text.now }
 {
-    let Some(end) = head_length(text) else {
-        return Err(unended_fault(text));
-    };
+    let end = head_length(text).ok_or(unended_fault(text))?;
     let (head, body) = text.split_at(end);
     let front = read_front(head)?;
     if body.len() as u64 != front.size {
@@ -61,9 +59,7 @@ pub fn read_message(text: &[u8]) -> Result<Message<'_>, WireFault>
 pub fn read_front(text: &[u8]) -> Result<Front<'_>, WireFault>
     ensures { Gives front_shown result (front_in text.now) }
 {
-    let Some(head) = read_head(text) else {
-        return Err(WireFault::BadHead);
-    };
+    let head = read_head(text).ok_or(WireFault::BadHead)?;
     let size = read_body_length(&head)?;
     Ok(Front { head, size })
 }
@@ -89,9 +85,7 @@ fn read_body_length(head: &Head<'_>) -> Result<u64, WireFault>
     if !matches!(head.field(b"transfer-encoding"), Occurrence::Absent) {
         return Err(WireFault::TransferEncoding);
     }
-    let Some(size) = read_content_length(head) else {
-        return Err(WireFault::ContentLength);
-    };
+    let size = read_content_length(head).ok_or(WireFault::ContentLength)?;
     if size > MAX_BODY_LEN {
         return Err(WireFault::BodyTooLarge);
     }

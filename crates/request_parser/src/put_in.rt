@@ -34,11 +34,17 @@ pub fn read_put(alloc: Global, id: PlanId, body: &[u8]) -> Result<PutCall, ReadE
 fn read_members(alloc: Global, id: PlanId, value: &Value) -> Result<PutCall, ReadError>
     ensures { GivesIfRoom (λ call. call) result (spec.put_of id (view value.now)) }
 {
-    let style = read_style(value).ok_or(WireFault::BadMember)?;
+    let style = text_at(value, "execution_style")
+        .and_then(parse_style)
+        .ok_or(WireFault::BadMember)?;
     let plan = value.get("flight_plan").ok_or(WireFault::BadMember)?;
     let information = plan.get("basic_information").ok_or(WireFault::BadMember)?;
-    let usage = read_usage(information).ok_or(WireFault::BadMember)?;
-    let aircraft = read_aircraft(information).ok_or(WireFault::BadMember)?;
+    let usage = text_at(information, "usage_state")
+        .and_then(parse_usage)
+        .ok_or(WireFault::BadMember)?;
+    let aircraft = text_at(information, "uas_state")
+        .and_then(parse_aircraft)
+        .ok_or(WireFault::BadMember)?;
     let items = array_at(information, "area").ok_or(WireFault::BadMember)?;
     let priority = read_priority(plan)?;
     let area = read_area(alloc, items)?;
@@ -76,27 +82,6 @@ fn read_priority_number(value: &Value) -> Option<u32>
 {
     let priority = u32::try_from(value.as_i64()?).ok()?;
     (priority <= MAX_PRIORITY).then_some(priority)
-}
-
-// The `execution_style` of `value`, the body. None if it is missing or no such word.
-fn read_style(value: &Value) -> Option<Style>
-    ensures { result ≡ spec.style_at (view value.now) }
-{
-    parse_style(text_at(value, "execution_style")?)
-}
-
-// The `usage_state` of `value`, a `basic_information`. None if it is missing or no such word.
-fn read_usage(value: &Value) -> Option<Usage>
-    ensures { result ≡ spec.usage_at (view value.now) }
-{
-    parse_usage(text_at(value, "usage_state")?)
-}
-
-// The `uas_state` of `value`, a `basic_information`. None if it is missing or no such word.
-fn read_aircraft(value: &Value) -> Option<Aircraft>
-    ensures { result ≡ spec.aircraft_at (view value.now) }
-{
-    parse_aircraft(text_at(value, "uas_state")?)
 }
 
 // Parses the word of an execution style in InterUSS flight_planning v1. None for every other word.

@@ -13,11 +13,12 @@ use desk_rules::call::{Asked, Call};
 use desk_rules::plan_id::PlanId;
 use std::alloc::Global;
 
-/// Parses `text`, the bytes of one whole request.
+/// Parses `text`, the bytes of one whole request: which operator makes which call.
 ///
 /// # Errors
 ///
-/// `OutOfMemory`, or the first fault: of the framing, then of the head, then of the body.
+/// `OutOfMemory` if memory runs out; else the fault of `read_message`, or if that has none, the first one of
+/// `parse_message`.
 #[tactic(auto, unfolding(crate::specs::Requests::asked))]
 pub fn read_request(alloc: Global, text: &[u8]) -> Result<Asked, ReadError>
     ensures { GivesIfRoom (λ asked. asked) result (asked text.now) }
@@ -61,8 +62,5 @@ fn read_call(alloc: Global, address: &Address<'_>, body: &[u8]) -> Result<Asked,
 fn read_plan_id(text: &str) -> Result<PlanId, WireFault>
     ensures { result ≡ id_of text.now }
 {
-    match PlanId::try_parse(text) {
-        Some(id) => Ok(id),
-        None => Err(WireFault::BadPlanId),
-    }
+    PlanId::try_parse(text).ok_or(WireFault::BadPlanId)
 }

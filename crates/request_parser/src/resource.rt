@@ -2,7 +2,6 @@
 
 ghost use Rattle.std.specs.Prelude.{◌≡◌};
 ghost use Rattle.request_parser.specs.Routes as spec;
-ghost use Rattle.request_parser.specs.declared.resource.Route.TheVariants as route;
 
 /// A resource of the interface, by its path.
 #[derive(Clone, Copy, Debug, PartialEq, Eq)]
@@ -40,11 +39,14 @@ impl Route {
     pub fn action(self, method: &[u8]) -> Option<Action>
         ensures { result ≡ spec.action_of self method.now }
     {
-        match self {
-            Route::Status => (method == b"GET".as_slice()).then_some(Action::Status),
-            Route::FlightPlans => (method == b"GET".as_slice()).then_some(Action::List),
-            Route::FlightPlan => plan_action(method),
-            Route::ClearAreaRequests => (method == b"POST".as_slice()).then_some(Action::Clear),
+        match (self, method) {
+            (Route::Status, b"GET") => Some(Action::Status),
+            (Route::FlightPlans, b"GET") => Some(Action::List),
+            (Route::FlightPlan, b"DELETE") => Some(Action::Delete),
+            (Route::FlightPlan, b"GET") => Some(Action::Show),
+            (Route::FlightPlan, b"PUT") => Some(Action::Put),
+            (Route::ClearAreaRequests, b"POST") => Some(Action::Clear),
+            _ => None,
         }
     }
 
@@ -57,21 +59,5 @@ impl Route {
             Route::FlightPlan => "DELETE, GET, PUT",
             Route::ClearAreaRequests => "POST",
         }
-    }
-}
-
-// The action of `method` at a flight plan. None if a flight plan has no such method.
-#[tactic(auto, unfolding(crate::specs::Routes::action_of))]
-fn plan_action(method: &[u8]) -> Option<Action>
-    ensures { result ≡ spec.action_of route.FlightPlan method.now }
-{
-    if method == b"DELETE".as_slice() {
-        Some(Action::Delete)
-    } else if method == b"GET".as_slice() {
-        Some(Action::Show)
-    } else if method == b"PUT".as_slice() {
-        Some(Action::Put)
-    } else {
-        None
     }
 }

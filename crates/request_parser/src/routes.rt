@@ -32,10 +32,7 @@ pub fn find_target(target: &[u8]) -> Option<Target<'_>>
 fn read_path(target: &str) -> &str
     ensures { result.now ≡ path_of target.now }
 {
-    match target.split_once('?') {
-        Some((path, _query)) => path,
-        None => target,
-    }
+    target.split_once('?').map_or(target, |(path, _query)| path)
 }
 
 // The resource at `path`, with its plan id. None if there is none.
@@ -43,20 +40,15 @@ fn read_path(target: &str) -> &str
 fn find_route(path: &str) -> Option<Target<'_>>
     ensures { option_map target_shown result ≡ route_of path.now }
 {
-    if path == "/clear_area_requests" {
-        return Some(target_without_id(Route::ClearAreaRequests));
+    match path {
+        "/clear_area_requests" => Some(target_without_id(Route::ClearAreaRequests)),
+        "/flight_plans" => Some(target_without_id(Route::FlightPlans)),
+        "/status" => Some(target_without_id(Route::Status)),
+        _ => find_plan_id(path).map(|id| Target {
+            route: Route::FlightPlan,
+            id,
+        }),
     }
-    if path == "/flight_plans" {
-        return Some(target_without_id(Route::FlightPlans));
-    }
-    if path == "/status" {
-        return Some(target_without_id(Route::Status));
-    }
-    let id = find_plan_id(path)?;
-    Some(Target {
-        route: Route::FlightPlan,
-        id,
-    })
 }
 
 // The target that names `route`, a resource whose path has no plan id.
@@ -86,10 +78,7 @@ fn strip_plans_folder(path: &str) -> Option<&str>
 fn is_segment(text: &str) -> bool
     ensures { result ≡ spec.is_segment text.now }
 {
-    if text.is_empty() {
-        return false;
-    }
-    !has_slash(text.as_bytes())
+    !text.is_empty() && !has_slash(text.as_bytes())
 }
 
 // Whether a slash is among `bytes`.

@@ -50,11 +50,7 @@ pub fn parse_end(text: &[u8]) -> Option<i64>
 {
     let time = parse_time(text)?;
     let second = unix_second(time)?;
-    if time.has_fraction {
-        Some(second + 1)
-    } else {
-        Some(second)
-    }
+    Some(second + i64::from(time.has_fraction))
 }
 
 // Parses a `date-time` of RFC 3339 of at most `MAX_TIME_LEN` bytes. The date and the time are not checked
@@ -170,25 +166,15 @@ fn is_above_zero(secfrac: &[u8]) -> bool
     secfrac.iter().any(|byte| b'1' <= *byte && *byte <= b'9')
 }
 
-// Parses an offset from UTC, `Z` or a numeric one, to seconds. None for every other text.
-#[tactic(auto, unfolding(crate::specs::Times::offset_of))]
+// Parses an offset from UTC, `Z`, `+HH:MM` or `-HH:MM`, to seconds. None for every other text.
+#[tactic(auto, unfolding(crate::specs::Times::offset_of, crate::specs::Times::numoffset_of))]
 fn parse_offset(text: &[u8]) -> Option<i32>
     ensures parsed { result ≡ spec.offset_of text.now }
     ensures range { IfSome result IsOffset }
 {
     if text.eq_ignore_ascii_case(b"Z") {
-        Some(0)
-    } else {
-        parse_numeric_offset(text)
+        return Some(0);
     }
-}
-
-// Parses a numeric offset, `+HH:MM` or `-HH:MM`, to seconds. None for every other text.
-#[tactic(auto, unfolding(crate::specs::Times::numoffset_of))]
-fn parse_numeric_offset(text: &[u8]) -> Option<i32>
-    ensures parsed { result ≡ spec.numoffset_of text.now }
-    ensures range { IfSome result IsOffset }
-{
     if !has_offset_marks(text) {
         return None;
     }

@@ -165,10 +165,7 @@ fn read_cell(value: &Value) -> Result<CellId, WireFault>
     ensures { result ≡ spec.token_of (view value.now) }
 {
     let text = value.as_str().ok_or(WireFault::BadVolume)?;
-    match CellId::from_token(text.as_bytes()) {
-        Ok(cell) => Ok(cell),
-        Err(_) => Err(WireFault::BadVolume),
-    }
+    CellId::from_token(text.as_bytes()).map_err(|_| WireFault::BadVolume)
 }
 
 // Reads the altitudes of a volume from `shape`, its member `volume`, and its times from `value`, the volume.
@@ -208,20 +205,15 @@ fn read_end(value: &Value) -> Option<i64>
     parse_end(time_at(value, "time_end")?.as_bytes())
 }
 
-// The text of the time that is the member `key` of `value`, an object. None if it is missing or malformed.
+// The text of the time that is the member `key` of `value`, an object: its own member `value`, if its `format`
+// is `RFC3339`. None if it is missing or malformed. The text is not parsed.
+#[tactic(auto, unfolding(crate::specs::Requests::time_text))]
 fn time_at<'a>(value: &'a Value, key: &str) -> Option<&'a str>
     ensures { option_map (λ s. s.now) result ≡ spec.time_at key.now (view value.now) }
 {
-    time_text(value.get(key)?)
-}
-
-// The text of `value`, a time: its own member `value`, if its `format` is `RFC3339`. The text is not parsed.
-#[tactic(auto, unfolding(crate::specs::Requests::time_text))]
-fn time_text<'a>(value: &'a Value) -> Option<&'a str>
-    ensures { option_map (λ s. s.now) result ≡ spec.time_text (view value.now) }
-{
-    if text_at(value, "format")? == "RFC3339" {
-        text_at(value, "value")
+    let time = value.get(key)?;
+    if text_at(time, "format")? == "RFC3339" {
+        text_at(time, "value")
     } else {
         None
     }

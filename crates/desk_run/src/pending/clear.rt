@@ -48,15 +48,9 @@ fn pending_clear(
         IfOk result (IsClearing operator.now (ids_in extent rows.now)) }
 {
     let ids = ids_sharing_point(alloc, slabs, rows)?;
-    if ids.is_empty() {
-        return Ok(Pending {
-            reply: Reply::Cleared(0),
-            change: None,
-        });
-    }
     Ok(Pending {
         reply: Reply::Cleared(count_of(&ids)),
-        change: Some(Change::Clear {
+        change: (!ids.is_empty()).then_some(Change::Clear {
             operator: *operator,
             ids,
         }),

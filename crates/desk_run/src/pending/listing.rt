@@ -3,7 +3,7 @@
 
 ghost use Rattle.std.specs.Prelude.{◌≡◌, ◌≤◌, ℕ, Option, true, map, IfOk, IfErr, OnOk};
 ghost use Rattle.desk_store.specs.{Changes.OnlyReads, Changes.IsHonest, Changes.IsCounted, World.held, World.held_at};
-ghost use Rattle.volume4d.specs.{Volume.Point, Slab.top_held, Sweep.Ascend};
+ghost use Rattle.volume4d.specs.{Volume.Point, Sweep.Ascend};
 ghost use Rattle.desk_rules.specs.{Conflict.at_least, Outcome.row_holds};
 ghost use Rattle.desk_run.specs.{HeldAmong.AddLevelAt, HeldAmong.HaveAll, HeldAmong.HaveLevelAt, HeldAmong.own_top, HeldAmong.some_hold, Verdicts.conflict_shown, Verdicts.shown_plan};
 
@@ -14,7 +14,7 @@ use desk_rules::operator::Operator;
 use desk_rules::permission::Permitted;
 use desk_rules::plan::PlanRow;
 use desk_rules::reply::Shown;
-use desk_store::{PlanStore, StoreFault};
+use desk_store::{PlanStore, StoreFault, in_order};
 use std::alloc::{AllocError, Global};
 use volume4d::{Held, Meeting, Slab};
 
@@ -149,12 +149,4 @@ fn push_own(
         plan.push_blocking(theirs, mine, least)?;
     }
     Ok(())
-}
-
-// Sorts slabs by their first leaves, so that one pass can compare them with a plan's.
-fn in_order(mut helds: Vec<Held>) -> Vec<Held>
-    ensures { (x : Point) → top_held result.items x ≡ top_held helds.items x }
-{
-    helds.sort_unstable_by_key(|held| held.slab.first);
-    helds
 }

@@ -2,7 +2,8 @@
 //! the number of one. A function fails only if memory runs out.
 
 ghost use Rattle.std.specs.Prelude.{◌≡◌, None, true, false, nat_le, OnOk};
-ghost use Rattle.volume4d.specs.{Slab.HasAll, Slab.level_where, Slab.slab_has, Slab.slabs_have, Slab.top_held, Volume.Point, Sweep.Ascend};
+ghost use Rattle.std.specs.List.{list_any};
+ghost use Rattle.volume4d.specs.{Slab.HasAll, Slab.level_where, Slab.overlap, Slab.slab_has, Slab.slabs_have, Slab.top_held, Volume.Point, Sweep.Ascend};
 ghost use Rattle.desk_rules.specs.Conflict.{at_least};
 ghost use Rattle.desk_run.specs.HeldAmong.{AddLevelAt, AreAfter, AreLeft, HaveAll};
 
@@ -77,10 +78,7 @@ fn is_wanted(held: &Held, least: u32, left: &[Slab], bounds: &Slab, parts: &[Sla
         → slabs_have parts.now x ≡ true → slabs_have left.now x ≡ true
         → at_least least (level_where (slab_has held.now.slab x) held.now.priority) ≡ None }
 {
-    if held.priority < least {
-        return false;
-    }
-    may_share(left, bounds, parts, &held.slab)
+    held.priority >= least && may_share(left, bounds, parts, &held.slab)
 }
 
 // The slabs of `mine` from the first one on that doesn't end before `position`. `left` is the result for the
@@ -131,16 +129,11 @@ fn may_share(left: &[Slab], bounds: &Slab, parts: &[Slab], slab: &Slab) -> bool
     overlaps_one(slab, parts)
 }
 
-// Whether `slab` shares a point with one of `parts`.
+// Whether `slab` overlaps one of `parts`.
 fn overlaps_one(slab: &Slab, parts: &[Slab]) -> bool
-    ensures { result ≡ false → (x : Point) → slabs_have parts.now x ≡ true → slab_has slab.now x ≡ false }
+    ensures { result ≡ list_any (overlap slab.now) parts.now }
 {
-    for part in parts {
-        if slab.overlaps(part) {
-            return true;
-        }
-    }
-    false
+    parts.iter().any(|part| slab.overlaps(part))
 }
 
 // Whether the first of `slabs`, which ascend, begins at `position` or before; false if there are none.

@@ -151,10 +151,7 @@ fn parts_of(alloc: Global, area: &Area) -> Result<Vec<Slab>, AllocError>
 fn may_block(row: &PlanRow, id: &PlanId, least: u32) -> bool
     ensures { result ≡ (not (has_id id.now row.now) && nat_le least row.now.priority) }
 {
-    if id.cmp(&row.id).is_eq() {
-        return false;
-    }
-    least <= row.priority
+    id.cmp(&row.id).is_ne() && least <= row.priority
 }
 
 // Appends to `extents` the bounds of each cluster of `slabs`, which ascend. Clusters are separated by gaps of

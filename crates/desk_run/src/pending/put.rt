@@ -169,8 +169,7 @@ fn states_and_count<S: PlanStore>(
     if stored.is_some() {
         return Ok((stored, 0));
     }
-    let own_rows = store.own_count(operator)?;
-    Ok((stored, own_rows))
+    Ok((stored, store.own_count(operator)?))
 }
 
 // Which limits, on spans and on cells, the operator's plans would exceed with the requested one in place of

@@ -72,11 +72,9 @@ fn find_joinable(extents: &[Slab], slab: &Slab, gap: u64) -> Option<usize>
 fn may_join(extent: &Slab, slab: &Slab, gap: u64) -> bool
     ensures { IsTrue result → slab.now.first ≤ extent.now.last + gap }
 {
-    if slab.first.saturating_sub(extent.last) > gap {
-        return false;
-    }
-    (extent.lower, extent.upper, extent.start, extent.end)
-        == (slab.lower, slab.upper, slab.start, slab.end)
+    slab.first.saturating_sub(extent.last) <= gap
+        && (extent.lower, extent.upper, extent.start, extent.end)
+            == (slab.lower, slab.upper, slab.start, slab.end)
 }
 
 // Widens the extent at the index `place`, so that it has the points of `slab`, too.

@@ -6,7 +6,7 @@ use Rattle.desk_run.proofs.pending.listing.blocking_slabs.Goals as goal
 
 pub returns : goal.returns
 returns c = λ levels here x has.
-    c.in_order.ensures x
+    c.in_order.ensures.same x
     ∙ in_the_way_at c.args.least c.args.plans.now levels c.args.plan.now.id x
     (top_held c.new-theirs.result.items x) (top_held c.args.others.now x)
     (top_held c.push_others.new.theirs.items x) (top_held c.push_own.new.theirs.items x)

@@ -2,7 +2,7 @@ use Rattle.std.proofs.Common.{◌≡◌, ◌∷◌, ◌∙◌, ap, sym}
 use Rattle.volume4d.specs.Slab.{top_held, greater}
 use Rattle.desk_store.specs.World.{others_top, filed_of, filed_all}
 use Rattle.desk_store.proofs.RivalLemmas.{rivals_begin, others_end, other_added}
-use Rattle.desk_store.proofs.list.others_of.Goals as goal
+use Rattle.desk_store.proofs.list.others_in.Goals as goal
 
 pub loop-key-init : goal.loop-key-init
 loop-key-init c = λ x.
@@ -23,6 +23,6 @@ loop-key-preserved c = λ x.
     ∙ c.loop-key.invariant x)
 
 pub returns : goal.returns
-returns c = λ x.
+returns c = λ x inside.
     others_end c.args.operator.now (filed_all c.loop-key.key-iterator) x _ _
     (ap filed_all c.in-None.ensures.steps.0) (c.loop-key.invariant x)
