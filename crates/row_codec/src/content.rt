@@ -165,20 +165,14 @@ fn count_of(rows: &[Row], operator: &[u8], id: &[u8]) -> usize
 fn is_of(row: &Row, operator: &[u8], id: &[u8]) -> bool
     ensures { result ≡ spec.is_row_of operator.now id.now row.now }
 {
-    if !is_text(row, 0, operator) {
-        return false;
-    }
-    is_text(row, 1, id)
+    is_text(row, 0, operator) && is_text(row, 1, id)
 }
 
 // Whether the column `at` is the text `text`.
 fn is_text(row: &Row, at: usize, text: &[u8]) -> bool
     ensures { result ≡ spec.has_text (column row.now at) text.now }
 {
-    match row.get_ref(at) {
-        Ok(ValueRef::Text(found)) => found.cmp(text).is_eq(),
-        _ => false,
-    }
+    matches!(row.get_ref(at), Ok(ValueRef::Text(found)) if found.cmp(text).is_eq())
 }
 
 /// Whether the operators are in ascending order of their names, none twice.

@@ -79,14 +79,9 @@ pub(crate) fn listed_in(row: &Row) -> Result<ListedOperator, RowFault>
     ensures refused { IfErr result (λ e. e ≡ RowFault.InvalidRows →
         (l : Listed) → IsOperator l → row.now ≢ row_of_operator l) }
 {
-    let Some(operator) = operator_in(row) else {
-        return Err(RowFault::InvalidRows);
-    };
+    let operator = operator_in(row).ok_or(RowFault::InvalidRows)?;
     let ceiling = count_at(row, 1)?;
-    if ceiling > MAX_PRIORITY {
-        return Err(RowFault::InvalidRows);
-    }
-    if row.column_count() != OPERATOR_WIDTH {
+    if ceiling > MAX_PRIORITY || row.column_count() != OPERATOR_WIDTH {
         return Err(RowFault::InvalidRows);
     }
     Ok(ListedOperator { operator, ceiling })
@@ -203,23 +198,14 @@ fn has_leaves_of(row: &Row, slab: &Slab) -> bool
     ensures { IsTrue result ↔ ((column row.now 3 ≡ Int (pos slab.now.first))
         × (column row.now 4 ≡ Int (pos slab.now.last))) }
 {
-    if !is_count_at(row, 3, slab.first) {
-        return false;
-    }
-    is_count_at(row, 4, slab.last)
+    is_count_at(row, 3, slab.first) && is_count_at(row, 4, slab.last)
 }
 
 /// Whether `row` has `width` columns and begins with the name `operator` and the text `id`.
 pub fn is_keyed(row: &Row, operator: &str, id: &str, width: usize) -> bool
     ensures { IsTrue result ↔ IsKeyed operator.now id.now width row.now }
 {
-    if row.column_count() != width {
-        return false;
-    }
-    if !is_text_at(row, 0, operator) {
-        return false;
-    }
-    is_text_at(row, 1, id)
+    row.column_count() == width && is_text_at(row, 0, operator) && is_text_at(row, 1, id)
 }
 
 // Whether the four columns from `at` on are the altitudes and times of `slab`.
@@ -243,28 +229,19 @@ fn is_window_at(row: &Row, at: usize, slab: &Slab) -> bool
 fn is_text_at(row: &Row, at: usize, text: &str) -> bool
     ensures { IsTrue result ↔ (column row.now at ≡ Text text.now) }
 {
-    match row.get_ref(at) {
-        Ok(ValueRef::Text(bytes)) => bytes == text.as_bytes(),
-        _ => false,
-    }
+    matches!(row.get_ref(at), Ok(ValueRef::Text(bytes)) if bytes == text.as_bytes())
 }
 
 // Whether the column `at` is the signed integer `number`.
 fn is_number_at(row: &Row, at: usize, number: i64) -> bool
     ensures { IsTrue result ↔ (column row.now at ≡ Int number) }
 {
-    match row.get_ref(at) {
-        Ok(ValueRef::Int(n)) => n == number,
-        _ => false,
-    }
+    matches!(row.get_ref(at), Ok(ValueRef::Int(n)) if n == number)
 }
 
 /// Whether the column `at` is the unsigned integer `count`.
 pub(crate) fn is_count_at(row: &Row, at: usize, count: u64) -> bool
     ensures { IsTrue result ↔ (column row.now at ≡ Int (pos count)) }
 {
-    match row.get_ref(at) {
-        Ok(ValueRef::Int(n)) => u64::try_from(n) == Ok(count),
-        _ => false,
-    }
+    matches!(row.get_ref(at), Ok(ValueRef::Int(n)) if u64::try_from(n) == Ok(count))
 }

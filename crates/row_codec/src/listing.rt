@@ -55,10 +55,8 @@ impl PlanCollector {
         let Some(head) = self.head.take() else {
             return Ok(());
         };
-        match Area::try_new(volumes) {
-            Some(area) => Ok(self.plans.push(head.with(area))?),
-            None => Err(StoreFault::Store),
-        }
+        let area = Area::try_new(volumes).ok_or(StoreFault::Store)?;
+        Ok(self.plans.push(head.with(area))?)
     }
 
     // Finishes the plan of the row before, and begins the plan whose first row is `row`.
@@ -146,8 +144,5 @@ pub(crate) fn error_of(fault: StoreFault) -> Error
 fn is_later(row: &Row) -> bool
     ensures { result ≡ spec.is_later row.now }
 {
-    match row.get_ref(5) {
-        Ok(ValueRef::Int(place)) => place > 0,
-        _ => false,
-    }
+    matches!(row.get_ref(5), Ok(ValueRef::Int(place)) if place > 0)
 }

@@ -54,10 +54,7 @@ pub(crate) fn i32_at(row: &Row, at: usize) -> Result<i32, StoreFault>
     ensures refused { IfErr result (λ e. e ≡ StoreFault.Store →
         (n : ℤ) → FitsSigned w32 n → column row.now at ≢ Int n) }
 {
-    match row.get(at) {
-        Ok(n) => Ok(n),
-        Err(e) => Err(fault_of(e)),
-    }
+    row.get(at).map_err(|e| fault_of(e))
 }
 
 /// The integer in the column `at`; `Store` if the column isn't an integer.
@@ -65,10 +62,7 @@ pub(crate) fn i64_at(row: &Row, at: usize) -> Result<i64, StoreFault>
     ensures value { IfOk result (λ n. column row.now at ≡ Int n) }
     ensures refused { IfErr result (λ e. e ≡ StoreFault.Store → (n : ℤ) → column row.now at ≢ Int n) }
 {
-    match row.get(at) {
-        Ok(n) => Ok(n),
-        Err(e) => Err(fault_of(e)),
-    }
+    row.get(at).map_err(|e| fault_of(e))
 }
 
 // The bytes in the column `at`; `Store` if the column isn't a blob, `OutOfMemory` if memory runs out.
@@ -77,10 +71,7 @@ fn blob_at(row: &Row, at: usize) -> Result<Vec<u8>, StoreFault>
     ensures refused { IfErr result (λ e. e ≡ StoreFault.Store →
         (bytes : List ℕ) → column row.now at ≢ Blob bytes) }
 {
-    match row.get(at) {
-        Ok(bytes) => Ok(bytes),
-        Err(e) => Err(fault_of(e)),
-    }
+    row.get(at).map_err(|e| fault_of(e))
 }
 
 /// The volume in the five columns from `at` on: `lower`, `upper`, `start`, `stop`, `asked`.
@@ -160,10 +151,7 @@ pub fn count_at(row: &Row, at: usize) -> Result<u32, StoreFault>
     ensures refused { IfErr result (λ e. e ≡ StoreFault.Store →
         (n : ℕ) → n < 2 ^ 32 → column row.now at ≢ Int (pos n)) }
 {
-    match row.get(at) {
-        Ok(n) => Ok(n),
-        Err(e) => Err(fault_of(e)),
-    }
+    row.get(at).map_err(|e| fault_of(e))
 }
 
 // The text in the column `at`; `Store` if the column isn't a text, `OutOfMemory` if memory runs out.
@@ -172,10 +160,7 @@ fn text_at(row: &Row, at: usize) -> Result<String, StoreFault>
     ensures refused { IfErr result (λ e. e ≡ StoreFault.Store →
         (text : List ℕ) → IsUtf8 text → column row.now at ≢ Text text) }
 {
-    match row.get(at) {
-        Ok(text) => Ok(text),
-        Err(e) => Err(fault_of(e)),
-    }
+    row.get(at).map_err(|e| fault_of(e))
 }
 
 /// The plan id whose text is the second column of `row`.

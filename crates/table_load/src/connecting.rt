@@ -5,8 +5,10 @@ ghost use Rattle.sqlite_wal.specs.Files.{image_at};
 ghost use Rattle.sqlite.specs.Held.{IsNew};
 ghost use Rattle.table_load.specs.Files.{Finds, IsUnreached};
 
-use crate::path::{NotOpened, connect_over, open_pair, options, require_file, require_nothing};
+use crate::fault::OpenFault;
+use crate::path::{NotOpened, connect_over, not_opened, open_pair, options};
 use sqlite::{Connection, FileFrom, FileStore, Start};
+use std::fs::{exists, metadata};
 
 /// Connects to the database in the file at `path` and its WAL, which are made if they aren't there. `start`
 /// says what they held.
@@ -32,7 +34,7 @@ pub fn connect<S: Start>(
 ///
 /// # Errors
 ///
-/// Those of `connect`, and `Store` if there is no file at the path, or an empty one.
+/// Those of `connect`, and `Store` if there is no file at the path, if it is empty, or if that can't be known.
 pub fn connect_to_existing<S: Start>(
     rt: &HostRuntime,
     path: &str,
@@ -42,8 +44,10 @@ pub fn connect_to_existing<S: Start>(
     ensures fresh { IfOk result IsNew }
     ensures unread { IfErr result (IsUnreached (image_at S.Start)) }
 {
-    require_file(rt, path)?;
-    connect(rt, path, start)
+    match metadata(rt, path) {
+        Ok(found) if found.len() > 0 => connect(rt, path, start),
+        _ => Err(not_opened(OpenFault::Store)),
+    }
 }
 
 /// As `connect`, but nothing may be at `path`.
@@ -60,6 +64,8 @@ pub fn connect_new<S: Start>(
     ensures fresh { IfOk result IsNew }
     ensures unread { IfErr result (IsUnreached (image_at S.Start)) }
 {
-    require_nothing(rt, path)?;
-    connect(rt, path, start)
+    match exists(rt, path) {
+        Ok(false) => connect(rt, path, start),
+        _ => Err(not_opened(OpenFault::Store)),
+    }
 }

@@ -97,10 +97,7 @@ fn columns_of(
 fn value_at(row: &Row, at: usize) -> ValueRef<'_>
     ensures { owned result ≡ column row.now at }
 {
-    match row.get_ref(at) {
-        Ok(value) => value,
-        Err(_) => ValueRef::Null,
-    }
+    row.get_ref(at).unwrap_or(ValueRef::Null)
 }
 
 // Whether `agree` is true and `row`, a row of `volume2`, also has the cover of its volume. If `agree` is

@@ -13,8 +13,8 @@ pub enum OpenFault {
     OutOfMemory,
     /// SQLite failed for another cause.
     Store,
-    /// The tables, indexes and views aren't a desk's, or others that stand apart behind all of these; or the
-    /// rows aren't those of a valid state.
+    /// The tables, indexes and views are not those of a desk (with or without others that stand apart behind
+    /// all of these); or the rows aren't those of a valid state.
     NotADesk,
     /// There are rows of schema 1, which have to be migrated.
     OldSchema,

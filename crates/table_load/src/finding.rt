@@ -129,8 +129,10 @@ pub fn create_tables<S: Alter>(connection: &mut Connection<S>) -> Result<GhostSt
     Ok(GhostState::new())
 }
 
-// Loads the state from the tables that are there, `made`, and then makes the missing ones. If it fails, none
-// is made.
+// Loads the state from the tables that are there, `made` (some first ones of the schema, not all), and then
+// makes the missing ones in one transaction. Returns the state, its indexes in memory, and whether it has an
+// operator. Fails with `NotADesk` if the rows are no valid state, and with `OutOfMemory` or `Store`; a
+// connection that is still open over an intact disk then shows what it showed.
 // Long: five facts say which tables there are; one record says how it may end.
 #[tactic(auto, using(crate::proofs::lemmas::Opening::some_operators))]
 fn load_and_complete<S: Alter>(

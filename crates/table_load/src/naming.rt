@@ -4,7 +4,6 @@
 ghost use Rattle.std.specs.Prelude.{◌≡◌, ◌≢◌, ◌⊎◌, List, true, false, IfErr, IfOk, IfSome, OnOk};
 ghost use Rattle.sqlite_value.specs.Order.{Row as Values};
 ghost use Rattle.sqlite_wal.specs.Files.{image_at};
-ghost use Rattle.sqlite.specs.{Files.over_files, Held.IsNew};
 ghost use Rattle.desk_sql.specs.{Effects.OnlyReads, Rows.tables_at};
 ghost use Rattle.table_load.specs.Files.{IsUnreached};
 ghost use Rattle.table_load.specs.OpeningSteps as spec;
@@ -35,7 +34,8 @@ use volume4d::laws::one_shape;
 pub enum InvalidPart {
     /// There is no table.
     NoTable,
-    /// The tables, indexes and views aren't a desk's, or others that stand apart behind all of these.
+    /// The tables, indexes and views are not those of a desk (with or without others that stand apart behind
+    /// all of these).
     OtherTables,
     /// There are rows of schema 1 and rows of schema 2.
     BothSchemas,
@@ -89,20 +89,9 @@ pub fn part_at<S: Start>(
     ensures named { IfOk result (λ it. NamesIn (image_at S.Start) it.part it.connection) }
     ensures unread { IfErr result (IsUnreached (image_at S.Start)) }
 {
-    match connect_to_existing(rt, path, start) {
-        Ok(connection) => Ok(name_part(rt.alloc(), connection)),
-        Err(unreached) => Err(unreached),
-    }
-}
-
-// Finds the first invalid part of the database that `connection` has open, and keeps the connection.
-fn name_part<D: Disk + Drop>(alloc: Global, mut connection: Connection<FileStore<D>>) -> Named<D>
-    requires { IsNew connection }
-    ensures reads { OnlyReads over_files connection result.connection }
-    ensures shows { ShowsPartOf over_files connection result.connection result.part FailsPart }
-{
-    let part = find_invalid(alloc, &mut connection);
-    Named { part, connection }
+    let mut connection = connect_to_existing(rt, path, start)?;
+    let part = find_invalid(rt.alloc(), &mut connection);
+    Ok(Named { part, connection })
 }
 
 /// Finds the first invalid part of a database. None if there is none, or if the database can't be read.
@@ -166,10 +155,8 @@ fn old_fault<S: Alter>(
     ensures shows { ShowsPartOf S.Store connection.old connection.new result (λ db.
         FailsMoving (tables_at made db.trees)) }
 {
-    match are_new_tables_empty(connection, made) {
-        Ok(true) => {}
-        Ok(false) => return Some(InvalidPart::BothSchemas),
-        Err(_) => return None,
+    if !are_new_tables_empty(connection, made).ok()? {
+        return Some(InvalidPart::BothSchemas);
     }
     old_rows_fault(alloc, connection, made)
 }
@@ -206,16 +193,10 @@ fn fault_of_spans(mut check: SpanCheck, covered: bool) -> Option<InvalidPart>
     ensures { (rows : List Values) → WereCompared check rows
         → IfSome result (FailsSpans check.plans.items rows covered) }
 {
-    match check.agrees() {
-        Ok(true) => {}
-        Ok(false) => return Some(InvalidPart::Span),
-        Err(_) => return None,
+    if !check.agrees().ok()? {
+        return Some(InvalidPart::Span);
     }
-    if covered {
-        None
-    } else {
-        Some(InvalidPart::Cover)
-    }
+    (!covered).then_some(InvalidPart::Cover)
 }
 
 // `OldSpan` if the rows of spans aren't those of the plans; else `OldPlan` if a plan exceeds the limits of
@@ -224,15 +205,11 @@ fn fault_of_old_spans(mut check: SpanCheck) -> Option<InvalidPart>
     ensures { (rows : List Values) → WereCompared check rows
         → IfSome result (FailsOldSpans check.plans.items rows) }
 {
-    match check.agrees() {
-        Ok(true) => {}
-        Ok(false) => return Some(InvalidPart::OldSpan),
-        Err(_) => return None,
+    if !check.agrees().ok()? {
+        return Some(InvalidPart::OldSpan);
     }
-    match are_within_old_limits(&check.plans) {
-        Ok(false) => Some(InvalidPart::OldPlan),
-        _ => None,
-    }
+    let within = are_within_old_limits(&check.plans).ok()?;
+    (!within).then_some(InvalidPart::OldPlan)
 }
 
 // The plans whose rows are `rows`; else the first invalid part, or None if memory runs out. `volume` is the
@@ -300,8 +277,8 @@ fn check_plan_rows(heads: &[Row]) -> Result<(), RowFault>
     Ok(())
 }
 
-// Checks that `head` is the row of a plan in `plan`, whatever its volumes are; else `InvalidRows`. Its third
-// column is the priority.
+// Checks that `head` is a row of the table `plan`, whatever the plan's volumes are; else `InvalidRows`, or
+// `OutOfMemory` if memory runs out. Its third column is the priority.
 fn check_plan_row(head: &Row) -> Result<(), RowFault>
     ensures valid { OnOk result (IsPlanHead head.now) }
     ensures refused { IfErr result (λ e. e ≡ RowFault.InvalidRows → ¬ IsPlanHead head.now) }

@@ -12,7 +12,6 @@ use sqlite::{Connection, FileFrom, FileStore, Files, Leftover, Options, Start};
 use sqlite_disk::Disk;
 use sqlite_std_file::OpenError;
 use std::alloc::Global;
-use std::fs::{exists, metadata};
 use std::hash::{BuildHasher, RandomState};
 use std::io::ErrorKind;
 use std::snapshot::Snapshot;
@@ -64,36 +63,6 @@ pub(crate) fn connect_over<D: Disk + Drop>(
     }
 }
 
-/// Checks that there is a file at `path` that isn't empty.
-///
-/// # Errors
-///
-/// `Store` if there is none, if it is empty, or if that can't be known.
-pub(crate) fn require_file<D: Disk>(rt: &HostRuntime, path: &str) -> Result<(), NotOpened<D>>
-    ensures fault { IfErr result (λ it. IsUnread it.fault) }
-    ensures left { IfErr result (λ it. it.left ≡ None) }
-{
-    match metadata(rt, path) {
-        Ok(found) if found.len() > 0 => Ok(()),
-        _ => Err(not_opened(OpenFault::Store)),
-    }
-}
-
-/// Checks that there is nothing at `path`.
-///
-/// # Errors
-///
-/// `Store` if there is something, or if that can't be known.
-pub(crate) fn require_nothing<D: Disk>(rt: &HostRuntime, path: &str) -> Result<(), NotOpened<D>>
-    ensures fault { IfErr result (λ it. IsUnread it.fault) }
-    ensures left { IfErr result (λ it. it.left ≡ None) }
-{
-    match exists(rt, path) {
-        Ok(false) => Ok(()),
-        _ => Err(not_opened(OpenFault::Store)),
-    }
-}
-
 /// Opens the database file at `path` and its WAL, which are made if they aren't there. `start` says what they
 /// held. `Store` if `path` is a name that SQLite doesn't read as a path, or if they can't be opened;
 /// `OutOfMemory` if memory runs out.
@@ -127,20 +96,15 @@ pub(crate) fn options<D: Disk>(rt: &HostRuntime) -> Result<Options, NotOpened<D>
     ensures fault { IfErr result (λ it. IsUnread it.fault) }
     ensures left { IfErr result (λ it. it.left ≡ None) }
 {
-    match RandomState::new(rt) {
-        Ok(random) => {
-            let seed = random.hash_one(&0u8);
-            Ok(Options {
-                checkpoint_frames: LOG_FRAMES,
-                ..Options::new(seed)
-            })
-        }
-        Err(_) => Err(not_opened(OpenFault::Store)),
-    }
+    let random = RandomState::new(rt).map_err(|_| not_opened(OpenFault::Store))?;
+    Ok(Options {
+        checkpoint_frames: LOG_FRAMES,
+        ..Options::new(random.hash_one(&0u8))
+    })
 }
 
-// The error for the cause `fault`, if the files were not both open: it has no files.
-fn not_opened<D: Disk>(fault: OpenFault) -> NotOpened<D>
+/// The error with the cause `fault`, when the two files were not opened: it holds none.
+pub(crate) fn not_opened<D: Disk>(fault: OpenFault) -> NotOpened<D>
     ensures fault { result.fault ≡ fault }
     ensures left { result.left ≡ None }
 {

@@ -289,8 +289,7 @@ pub(crate) fn fault_of(error: Error) -> OpenFault
     ensures other { (result ≢ OpenFault.NotADesk) × (result ≢ OpenFault.OldSchema) }
 {
     match error {
-        Error::SqliteFailure(ErrorCode::OutOfMemory) => OpenFault::OutOfMemory,
-        Error::SqliteFailure(ErrorCode::TooBig) => OpenFault::OutOfMemory,
+        Error::SqliteFailure(ErrorCode::OutOfMemory | ErrorCode::TooBig) => OpenFault::OutOfMemory,
         _ => OpenFault::Store,
     }
 }

@@ -14,70 +14,6 @@ use crate::opening::objects::{
 use crate::running::run;
 use sqlite::{Alter, Connection, Error, Transaction};
 
-// The statement that makes `operator`.
-#[tactic(auto, using(crate::proofs::StepStops::operator_step))]
-fn operator_text() -> &'static str
-    ensures { IsStep result.now TablesPresent.Nothing TablesPresent.Operators }
-{
-    OPERATOR_TABLE.sql
-}
-
-// The statement that makes `plan`.
-#[tactic(auto, using(crate::proofs::StepStops::plan_step))]
-fn plan_text() -> &'static str
-    ensures { IsStep result.now TablesPresent.Operators TablesPresent.Plans }
-{
-    PLAN_TABLE.sql
-}
-
-// The statement that makes `volume`, a table of version 1 of the schema.
-#[tactic(auto, using(crate::proofs::StepStops::old_volume_step))]
-fn old_volume_text() -> &'static str
-    ensures { IsStep result.now TablesPresent.Plans TablesPresent.OldVolumes }
-{
-    OLD_VOLUME_TABLE.sql
-}
-
-// The statement that makes `span`, a table of version 1 of the schema.
-#[tactic(auto, using(crate::proofs::StepStops::old_span_step))]
-fn old_span_text() -> &'static str
-    ensures { IsStep result.now TablesPresent.OldVolumes TablesPresent.OldSpans }
-{
-    OLD_SPAN_TABLE.sql
-}
-
-// The statement that makes the index over the leaves of `span`.
-#[tactic(auto, using(crate::proofs::StepStops::old_first_step))]
-fn old_leaf_index_text() -> &'static str
-    ensures { IsStep result.now TablesPresent.OldSpans TablesPresent.OldIndex }
-{
-    OLD_LEAVES.sql
-}
-
-// The statement that makes `volume2`.
-#[tactic(auto, using(crate::proofs::StepStops::volume_step))]
-fn volume_text() -> &'static str
-    ensures { IsStep result.now TablesPresent.OldIndex TablesPresent.Volumes }
-{
-    VOLUME_TABLE.sql
-}
-
-// The statement that makes `span2`.
-#[tactic(auto, using(crate::proofs::StepStops::span_step))]
-fn span_text() -> &'static str
-    ensures { IsStep result.now TablesPresent.Volumes TablesPresent.Spans }
-{
-    SPAN_TABLE.sql
-}
-
-// The statement that makes the index over the leaves of `span2`.
-#[tactic(auto, using(crate::proofs::StepStops::first_step))]
-fn leaf_index_text() -> &'static str
-    ensures { IsStep result.now TablesPresent.Spans TablesPresent.All }
-{
-    LEAVES.sql
-}
-
 // What is there after the next statement if `made` is there now, and that statement; `None` if nothing is
 // missing.
 fn next_step(made: TablesPresent) -> Option<(TablesPresent, &'static str)>
@@ -88,14 +24,14 @@ fn next_step(made: TablesPresent) -> Option<(TablesPresent, &'static str)>
     ensures none { IfNone result (made ≡ TablesPresent.All) }
 {
     match made {
-        TablesPresent::Nothing => Some((TablesPresent::Operators, operator_text())),
-        TablesPresent::Operators => Some((TablesPresent::Plans, plan_text())),
-        TablesPresent::Plans => Some((TablesPresent::OldVolumes, old_volume_text())),
-        TablesPresent::OldVolumes => Some((TablesPresent::OldSpans, old_span_text())),
-        TablesPresent::OldSpans => Some((TablesPresent::OldIndex, old_leaf_index_text())),
-        TablesPresent::OldIndex => Some((TablesPresent::Volumes, volume_text())),
-        TablesPresent::Volumes => Some((TablesPresent::Spans, span_text())),
-        TablesPresent::Spans => Some((TablesPresent::All, leaf_index_text())),
+        TablesPresent::Nothing => Some((TablesPresent::Operators, OPERATOR_TABLE.sql)),
+        TablesPresent::Operators => Some((TablesPresent::Plans, PLAN_TABLE.sql)),
+        TablesPresent::Plans => Some((TablesPresent::OldVolumes, OLD_VOLUME_TABLE.sql)),
+        TablesPresent::OldVolumes => Some((TablesPresent::OldSpans, OLD_SPAN_TABLE.sql)),
+        TablesPresent::OldSpans => Some((TablesPresent::OldIndex, OLD_LEAVES.sql)),
+        TablesPresent::OldIndex => Some((TablesPresent::Volumes, VOLUME_TABLE.sql)),
+        TablesPresent::Volumes => Some((TablesPresent::Spans, SPAN_TABLE.sql)),
+        TablesPresent::Spans => Some((TablesPresent::All, LEAVES.sql)),
         TablesPresent::All | TablesPresent::Packed => None,
     }
 }

@@ -126,65 +126,15 @@ pub(crate) fn rowids_text(table: DeskTable) -> &'static str
     ensures { SelectsAll table result.now (0 ∷ []) (λ db. rowids (db (tree_of table))) }
 {
     match table {
-        DeskTable::Operator => operator_rowids_text(),
-        DeskTable::Plan => plan_rowids_text(),
-        DeskTable::OldVolume => old_volume_rowids_text(),
-        DeskTable::OldSpan => old_span_rowids_text(),
-        DeskTable::Volume => volume_rowids_text(),
-        DeskTable::Span => span_rowids_text(),
-        DeskTable::PackedVolume => volume_rowids_text(),
-        DeskTable::PackedSpan => span_rowids_text(),
+        DeskTable::Operator => "SELECT rowid FROM operator ORDER BY rowid",
+        DeskTable::Plan => "SELECT rowid FROM plan ORDER BY rowid",
+        DeskTable::OldVolume => "SELECT rowid FROM volume ORDER BY rowid",
+        DeskTable::OldSpan => "SELECT rowid FROM span ORDER BY rowid",
+        DeskTable::Volume => "SELECT rowid FROM volume2 ORDER BY rowid",
+        DeskTable::Span => "SELECT rowid FROM span2 ORDER BY rowid",
+        DeskTable::PackedVolume => "SELECT rowid FROM volume2 ORDER BY rowid",
+        DeskTable::PackedSpan => "SELECT rowid FROM span2 ORDER BY rowid",
     }
-}
-
-// The query of the rowids of `operator` (b-tree 0), ascending.
-#[tactic(auto, using(crate::proofs::lemmas::Rowid::operator_rowids_selected))]
-fn operator_rowids_text() -> &'static str
-    ensures { SelectsAll DeskTable.Operator result.now (0 ∷ []) (λ db. rowids (db 0)) }
-{
-    "SELECT rowid FROM operator ORDER BY rowid"
-}
-
-// The query of the rowids of `plan` (b-tree 2), ascending.
-#[tactic(auto, using(crate::proofs::lemmas::Rowid::plan_rowids_selected))]
-fn plan_rowids_text() -> &'static str
-    ensures { SelectsAll DeskTable.Plan result.now (0 ∷ []) (λ db. rowids (db 2)) }
-{
-    "SELECT rowid FROM plan ORDER BY rowid"
-}
-
-// The query of the rowids of `volume` (b-tree 4), ascending.
-#[tactic(auto, using(crate::proofs::lemmas::Rowid::old_volume_rowids_selected))]
-fn old_volume_rowids_text() -> &'static str
-    ensures { SelectsAll DeskTable.OldVolume result.now (0 ∷ []) (λ db. rowids (db 4)) }
-{
-    "SELECT rowid FROM volume ORDER BY rowid"
-}
-
-// The query of the rowids of `span` (b-tree 6), ascending.
-#[tactic(auto, using(crate::proofs::lemmas::Rowid::old_span_rowids_selected))]
-fn old_span_rowids_text() -> &'static str
-    ensures { SelectsAll DeskTable.OldSpan result.now (0 ∷ []) (λ db. rowids (db 6)) }
-{
-    "SELECT rowid FROM span ORDER BY rowid"
-}
-
-// The query of the rowids of `volume2` (b-tree 9, in a packed file 8), ascending.
-#[tactic(auto, using(crate::proofs::lemmas::Rowid::volume_rowids_selected, crate::proofs::PackedLemmas::volume_rowids_selected))]
-fn volume_rowids_text() -> &'static str
-    ensures canonical { SelectsAll DeskTable.Volume result.now (0 ∷ []) (λ db. rowids (db 9)) }
-    ensures packed { SelectsAll DeskTable.PackedVolume result.now (0 ∷ []) (λ db. rowids (db 8)) }
-{
-    "SELECT rowid FROM volume2 ORDER BY rowid"
-}
-
-// The query of the rowids of `span2` (b-tree 11, in a packed file 10), ascending.
-#[tactic(auto, using(crate::proofs::lemmas::Rowid::span_rowids_selected, crate::proofs::PackedLemmas::span_rowids_selected))]
-fn span_rowids_text() -> &'static str
-    ensures canonical { SelectsAll DeskTable.Span result.now (0 ∷ []) (λ db. rowids (db 11)) }
-    ensures packed { SelectsAll DeskTable.PackedSpan result.now (0 ∷ []) (λ db. rowids (db 10)) }
-{
-    "SELECT rowid FROM span2 ORDER BY rowid"
 }
 
 /// Checks that the rowids of `table`, which exists, are integers, each once; else returns `DatabaseCorrupt`.

@@ -2,37 +2,13 @@
 
 ghost use Rattle.std.specs.Prelude.{◌≡◌, IsTrue};
 ghost use Rattle.sqlite.specs.{Effect.IsDatabase, Held.state};
-ghost use Rattle.desk_sql.specs.{Schema.packed_schema, Schema.old_table_schema, Rows.IsMadeTo, Rows.tables_at, Effects.Holds, Effects.Makes, Queries.IsRunWithin};
-ghost use Rattle.desk_sql.specs.Changing.{HasSmallSpans, loose_schema, spanless_schema, Drops, Unpacks, RemakesTables};
+ghost use Rattle.desk_sql.specs.{Rows.IsMadeTo, Rows.tables_at, Effects.Holds, Effects.Makes, Queries.IsRunWithin};
+ghost use Rattle.desk_sql.specs.Changing.{HasSmallSpans, Unpacks, RemakesTables};
 
 use crate::opening::finding::TablesPresent;
 use crate::opening::making::make_rest;
 use crate::running::run;
 use sqlite::{Alter, Error, Transaction};
-
-// The statement that drops the index over the leaves of `span`.
-#[tactic(auto, using(crate::proofs::DropStops::old_first_drops))]
-fn drop_old_leaf_index_text() -> &'static str
-    ensures { Drops result.now packed_schema loose_schema }
-{
-    "DROP INDEX span_first"
-}
-
-// The statement that drops `span2`.
-#[tactic(auto, using(crate::proofs::DropStops::spans_drop))]
-fn drop_spans_text() -> &'static str
-    ensures { Drops result.now loose_schema spanless_schema }
-{
-    "DROP TABLE span2"
-}
-
-// The statement that drops `volume2`.
-#[tactic(auto, using(crate::proofs::DropStops::volumes_drop))]
-fn drop_volumes_text() -> &'static str
-    ensures { Drops result.now spanless_schema old_table_schema }
-{
-    "DROP TABLE volume2"
-}
 
 // Drops the tables and the index of a packed file that have other b-trees in canonical order. What is left is
 // `OldSpans`.
@@ -43,9 +19,9 @@ fn unpack<S: Alter>(tx: &mut Transaction<'_, S>) -> Result<(), Error>
         (Unpacks S.Store tx.old.conn.now tx.new.conn.now)
         (Holds S.Store tx.old.conn.now IsDatabase × IsTrue tx.old.conn.now.in_transaction) }
 {
-    run(tx, drop_old_leaf_index_text(), &[])?;
-    run(tx, drop_spans_text(), &[])?;
-    run(tx, drop_volumes_text(), &[])?;
+    run(tx, "DROP INDEX span_first", &[])?;
+    run(tx, "DROP TABLE span2", &[])?;
+    run(tx, "DROP TABLE volume2", &[])?;
     Ok(())
 }
 
