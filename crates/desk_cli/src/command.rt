@@ -48,209 +48,94 @@ enum ArgKind {
     Flag,
 }
 
-// The database, which is optional.
-const DATABASE: ArgRow = ArgRow {
-    id: "database",
-    long: Some("db"),
-    value: Some("FILE"),
-    help: "The SQLite database of operators and plans, or :memory: for one in memory",
-    is_required: false,
-    kind: ArgKind::Text,
-};
+const REQUIRED: bool = true;
 
-// The database, which is required.
+const OPTIONAL: bool = false;
+
+// An argument: its `id`, `long`, `value`, `is_required`, `kind` and `help`.
+macro_rules! argument {
+    ($id:literal: $long:expr, $value:expr, $is_required:expr, $kind:expr, $help:literal) => {
+        ArgRow {
+            id: $id,
+            long: $long,
+            value: $value,
+            help: $help,
+            is_required: $is_required,
+            kind: $kind,
+        }
+    };
+}
+
+const DATABASE: ArgRow = argument!("database": Some("db"), Some("FILE"), OPTIONAL,
+    ArgKind::Text, "The SQLite database of operators and plans, or :memory: for one in memory");
+
+const NEW_FILE: ArgRow = argument!("to": Some("to"), Some("NEW"), REQUIRED,
+    ArgKind::Text, "The new file, where there is none yet");
+
+const MOMENT: ArgRow = argument!("moment": Some("at"), Some("SECOND"), REQUIRED,
+    ArgKind::Number(0, MAX_SECOND), "The moment of all requests, a Unix second");
+
+const PORT: ArgRow = argument!("port": Some("port"), Some("N"), REQUIRED,
+    ArgKind::Number(1, u16::MAX as i64), "The port of 127.0.0.1 that is listened at");
+
+const CONNECTIONS: ArgRow = argument!("connections": Some("requests"), Some("N"), REQUIRED,
+    ArgKind::Number(1, MAX_CONNECTIONS as i64), "How many connections are served, one request each");
+
+const EQUAL: ArgRow = argument!("equal": Some("equal"), Some("LIST"), OPTIONAL,
+    ArgKind::Text, "Priorities at which plans of equal priority may overlap, ascending, with commas between");
+
+const SPANS: ArgRow = argument!("spans": Some("spans"), Some("N"), OPTIONAL,
+    ArgKind::Number(1, MAX_SPANS as i64), "The most spans that the live plans of an operator may have");
+
+const CELLS: ArgRow = argument!("cells": Some("cells"), Some("N"), OPTIONAL,
+    ArgKind::Number(1, MAX_TOTAL_CELLS as i64), "The most cells that the plans of an operator may have, closed ones too");
+
+const OPERATORS: ArgRow = argument!("operators": Some("operators"), Some("FILE"), OPTIONAL,
+    ArgKind::Text, "A file of lines NAME CEILING, read again when it has changed");
+
+const RECORD: ArgRow = argument!("record": Some("record"), Some("FOLDER"), OPTIONAL,
+    ArgKind::Text, "A folder in which each request and its answer are recorded");
+
+const UNTIL: ArgRow = argument!("until": Some("until"), Some("SECOND"), OPTIONAL,
+    ArgKind::Number(0, MAX_SECOND), "The last Unix second whose requests are played");
+
+const ENROLMENTS: ArgRow = argument!("enrolments": None, Some("NAME=CEILING"), OPTIONAL,
+    ArgKind::Texts, "An operator, and the greatest priority that it may use");
+
+const TOKEN: ArgRow = argument!("token": None, Some("TOKEN"), REQUIRED,
+    ArgKind::Text, "A cell of the S2 geometry library, 1 to 16 hex digits");
+
+const FACE: ArgRow = argument!("FACE": None, Some("FACE"), REQUIRED,
+    SMALL, "The face, 0 to 5");
+
+const I_MIN: ArgRow = argument!("I_MIN": None, Some("I_MIN"), REQUIRED,
+    COORDINATE, "The least coordinate i of a leaf");
+
+const I_MAX: ArgRow = argument!("I_MAX": None, Some("I_MAX"), REQUIRED,
+    COORDINATE, "The greatest coordinate i");
+
+const J_MIN: ArgRow = argument!("J_MIN": None, Some("J_MIN"), REQUIRED,
+    COORDINATE, "The least coordinate j");
+
+const J_MAX: ArgRow = argument!("J_MAX": None, Some("J_MAX"), REQUIRED,
+    COORDINATE, "The greatest coordinate j");
+
+const LEVEL: ArgRow = argument!("LEVEL": None, Some("LEVEL"), REQUIRED,
+    SMALL, "The level, 8 to 24");
+
+const PICTURE: ArgRow = argument!("picture": Some("svg"), None, OPTIONAL,
+    ArgKind::Flag, "Prints a picture (SVG) in place of the tokens");
+
+const NAME: ArgRow = argument!("NAME": None, Some("NAME"), REQUIRED,
+    ArgKind::Text, "The operator's name");
+
+const CEILING: ArgRow = argument!("CEILING": None, Some("CEILING"), REQUIRED,
+    ArgKind::Text, "The greatest priority that it may use");
+
+// The database, where it is required.
 const GIVEN_DATABASE: ArgRow = ArgRow {
     is_required: true,
     ..DATABASE
-};
-
-const NEW_FILE: ArgRow = ArgRow {
-    id: "to",
-    long: Some("to"),
-    value: Some("NEW"),
-    help: "The new file, where there is none yet",
-    is_required: true,
-    kind: ArgKind::Text,
-};
-
-const MOMENT: ArgRow = ArgRow {
-    id: "moment",
-    long: Some("at"),
-    value: Some("SECOND"),
-    help: "The moment of all requests, a Unix second",
-    is_required: true,
-    kind: ArgKind::Number(0, MAX_SECOND),
-};
-
-const PORT: ArgRow = ArgRow {
-    id: "port",
-    long: Some("port"),
-    value: Some("N"),
-    help: "The port of 127.0.0.1 that is listened at",
-    is_required: true,
-    kind: ArgKind::Number(1, u16::MAX as i64),
-};
-
-const CONNECTIONS: ArgRow = ArgRow {
-    id: "connections",
-    long: Some("requests"),
-    value: Some("N"),
-    help: "How many connections are served, one request each",
-    is_required: true,
-    kind: ArgKind::Number(1, MAX_CONNECTIONS as i64),
-};
-
-const EQUAL: ArgRow = ArgRow {
-    id: "equal",
-    long: Some("equal"),
-    value: Some("LIST"),
-    help: "Priorities at which plans of equal priority may overlap, ascending, with commas between",
-    is_required: false,
-    kind: ArgKind::Text,
-};
-
-const SPANS: ArgRow = ArgRow {
-    id: "spans",
-    long: Some("spans"),
-    value: Some("N"),
-    help: "The most spans that the live plans of an operator may have",
-    is_required: false,
-    kind: ArgKind::Number(1, MAX_SPANS as i64),
-};
-
-const CELLS: ArgRow = ArgRow {
-    id: "cells",
-    long: Some("cells"),
-    value: Some("N"),
-    help: "The most cells that the plans of an operator may have, closed ones too",
-    is_required: false,
-    kind: ArgKind::Number(1, MAX_TOTAL_CELLS as i64),
-};
-
-const OPERATORS: ArgRow = ArgRow {
-    id: "operators",
-    long: Some("operators"),
-    value: Some("FILE"),
-    help: "A file of lines NAME CEILING, read again when it has changed",
-    is_required: false,
-    kind: ArgKind::Text,
-};
-
-const RECORD: ArgRow = ArgRow {
-    id: "record",
-    long: Some("record"),
-    value: Some("FOLDER"),
-    help: "A folder in which each request and its answer are recorded",
-    is_required: false,
-    kind: ArgKind::Text,
-};
-
-const UNTIL: ArgRow = ArgRow {
-    id: "until",
-    long: Some("until"),
-    value: Some("SECOND"),
-    help: "The last Unix second whose requests are played",
-    is_required: false,
-    kind: ArgKind::Number(0, MAX_SECOND),
-};
-
-const ENROLMENTS: ArgRow = ArgRow {
-    id: "enrolments",
-    long: None,
-    value: Some("NAME=CEILING"),
-    help: "An operator, and the greatest priority that it may use",
-    is_required: false,
-    kind: ArgKind::Texts,
-};
-
-const TOKEN: ArgRow = ArgRow {
-    id: "token",
-    long: None,
-    value: Some("TOKEN"),
-    help: "A cell of the S2 geometry library, 1 to 16 hex digits",
-    is_required: true,
-    kind: ArgKind::Text,
-};
-
-const FACE: ArgRow = ArgRow {
-    id: "FACE",
-    long: None,
-    value: Some("FACE"),
-    help: "The face, 0 to 5",
-    is_required: true,
-    kind: SMALL,
-};
-
-const I_MIN: ArgRow = ArgRow {
-    id: "I_MIN",
-    long: None,
-    value: Some("I_MIN"),
-    help: "The least coordinate i of a leaf",
-    is_required: true,
-    kind: COORDINATE,
-};
-
-const I_MAX: ArgRow = ArgRow {
-    id: "I_MAX",
-    long: None,
-    value: Some("I_MAX"),
-    help: "The greatest coordinate i",
-    is_required: true,
-    kind: COORDINATE,
-};
-
-const J_MIN: ArgRow = ArgRow {
-    id: "J_MIN",
-    long: None,
-    value: Some("J_MIN"),
-    help: "The least coordinate j",
-    is_required: true,
-    kind: COORDINATE,
-};
-
-const J_MAX: ArgRow = ArgRow {
-    id: "J_MAX",
-    long: None,
-    value: Some("J_MAX"),
-    help: "The greatest coordinate j",
-    is_required: true,
-    kind: COORDINATE,
-};
-
-const LEVEL: ArgRow = ArgRow {
-    id: "LEVEL",
-    long: None,
-    value: Some("LEVEL"),
-    help: "The level, 8 to 24",
-    is_required: true,
-    kind: SMALL,
-};
-
-const PICTURE: ArgRow = ArgRow {
-    id: "picture",
-    long: Some("svg"),
-    value: None,
-    help: "Prints a picture (SVG) in place of the tokens",
-    is_required: false,
-    kind: ArgKind::Flag,
-};
-
-const NAME: ArgRow = ArgRow {
-    id: "NAME",
-    long: None,
-    value: Some("NAME"),
-    help: "The operator's name",
-    is_required: true,
-    kind: ArgKind::Text,
-};
-
-const CEILING: ArgRow = ArgRow {
-    id: "CEILING",
-    long: None,
-    value: Some("CEILING"),
-    help: "The greatest priority that it may use",
-    is_required: true,
-    kind: ArgKind::Text,
 };
 
 // Numbers of 8 bits, and of 32.

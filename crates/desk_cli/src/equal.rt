@@ -88,13 +88,7 @@ pub fn parse_priority(text: &str) -> Option<u32>
 fn is_short_number(text: &str) -> bool
     ensures { result ≡ spec.is_short_number text.now }
 {
-    if text.is_empty() {
-        return false;
-    }
-    if text.len() > PRIORITY_DIGITS {
-        return false;
-    }
-    are_all_digits(text.as_bytes())
+    !text.is_empty() && text.len() <= PRIORITY_DIGITS && are_all_digits(text.as_bytes())
 }
 
 // Whether all bytes are decimal digits (ASCII).

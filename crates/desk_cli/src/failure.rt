@@ -3,7 +3,7 @@
 ghost use Rattle.std.specs.Prelude.{◌≡◌, IfErr, None, OnOk, is_some};
 ghost use Rattle.std.specs.Io.KnownBytes.{Appends};
 ghost use Rattle.desk_cli.specs.Exits as spec;
-ghost use Rattle.desk_cli.specs.Exits.{IsPartlyWritten, IsWrittenOrCut};
+ghost use Rattle.desk_cli.specs.Exits.{IsPartlyWritten};
 ghost use Rattle.desk_cli.specs.declared.failure.ErrorCode.TheVariants as failure;
 
 use desk_run::DeskFault;
@@ -235,19 +235,8 @@ pub fn report_exit<E: Write>(errors: &mut E, done: Result<(), ErrorCode>) -> Exi
         Ok(()) => ExitReport::silent(0),
         Err(failure) => ExitReport {
             status: failure.status(),
-            cut: print_failure(errors, failure),
+            cut: write_failure(errors, failure).err(),
         },
-    }
-}
-
-// Prints the line `uss_desk: WORD`, and returns the write error, if there was one.
-fn print_failure<E: Write>(errors: &mut E, failure: ErrorCode) -> Option<WriteError<E>>
-    ensures { IsWrittenOrCut (is_some result) (spec.failure_line failure) (E.contents errors.old)
-        (E.contents errors.new) }
-{
-    match write_failure(errors, failure) {
-        Ok(()) => None,
-        Err(cut) => Some(cut),
     }
 }
 

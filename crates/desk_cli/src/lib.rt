@@ -17,6 +17,6 @@ pub use line::{
     ReplayArgs, ServeArgs, WordsFault, read_words,
 };
 pub use malformed::find_malformed_argument;
-pub use printed::print_line;
+pub use printed::{print_line, write_text};
 pub use register::{lines_of, parse_enrolment_line, parse_enrolment_lines};
-pub use reporting::{report, report_malformed_argument};
+pub use reporting::{report, report_line, report_malformed_argument};

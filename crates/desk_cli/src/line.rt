@@ -7,8 +7,8 @@ ghost use mir.Val.{SFits};
 ghost use Rattle.clap.specs.{Matches.found_of, Simple.subcommand_of, Simple.subcommand_rows_of, Walk.first_of, Walk.rows_of};
 ghost use Rattle.desk_rules.specs.Limits.{max_priority};
 ghost use Rattle.io_ends.specs.Writing.{IsMoment};
-ghost use Rattle.desk_cli.specs.Lines.{SameDesk, SameLine, AreEnrolments, IsCover, IsEnrol, IsMomentIfGiven, IsLine, IsPlay, IsReplay, IsServe, desk_of, file_of, max_connections, max_port, min_connections, min_limit, min_port, named_file};
-ghost use Rattle.desk_cli.specs.Grammar.{ArePermittedBy, AreEnrolmentsGiven, IsCellLimitGiven, IsSpanLimitGiven, AreTermsOf, AreWordsRefused, HasGiven, IsBareDeskGiven, IsCopyGiven, IsCoverGiven, IsDeskGiven, IsEnrolGiven, IsGiven, IsLineOf, IsLimitGiven, IsNumberGiven, IsNumberOrNone, IsPlayGiven, IsReplayGiven, IsIntegerGiven, IsServeGiven, IsTextGiven, IsRefusedByClap, RefusesOnlyWithout, enrolment_given, enrolment_in, file_given, name_of, program};
+ghost use Rattle.desk_cli.specs.Lines.{SameDesk, SameLine, AreEnrolments, IsCover, IsEnrol, IsMomentIfGiven, IsLine, IsPlay, IsReplay, IsServe, desk_of, file_of, max_connections, max_port, min_connections, min_limit, min_port};
+ghost use Rattle.desk_cli.specs.Grammar.{ArePermittedBy, AreEnrolmentsGiven, AreTermsOf, AreWordsRefused, HasGiven, IsBareDeskGiven, IsCopyGiven, IsCoverGiven, IsDeskGiven, IsEnrolGiven, IsGiven, IsLineOf, IsLimitGiven, IsNumberGiven, IsNumberOrNone, IsPlayGiven, IsReplayGiven, IsIntegerGiven, IsServeGiven, IsTextGiven, IsRefusedByClap, RefusesOnlyWithout, enrolment_given, enrolment_in, file_given, name_of, program};
 ghost use Rattle.desk_cli.specs.Grammar as spec;
 ghost use Rattle.desk_cli.specs.declared.line.CoverArgs.{CoverArgs};
 ghost use Rattle.desk_cli.specs.declared.line.WordsFault.TheVariants as fault;
@@ -300,18 +300,10 @@ pub fn read_words(alloc: Global, words: Vec<String>) -> Result<Line, WordsFault>
     ensures given { IfOk result (IsGiven (map string_bytes words.items)) }
     ensures refused { IfErr result (AreWordsRefused (map string_bytes words.items)) }
 {
-    parse_command(alloc, &words)
-}
-
-// Parses the command line `words`. `clap` refuses one without a command.
-fn parse_command(alloc: Global, words: &[String]) -> Result<Line, WordsFault>
-    ensures valid { IfOk result IsLine }
-    ensures given { IfOk result (IsGiven (map string_bytes words.now)) }
-    ensures refused { IfErr result (AreWordsRefused (map string_bytes words.now)) }
-{
-    let matches = match_words(alloc, words)?;
+    let matches = match_words(alloc, &words)?;
     match matches.subcommand() {
         Some((name, given)) => read_command(alloc, name, given),
+        // `clap` refuses a command line without a command.
         None => Err(WordsFault::Value),
     }
 }
@@ -338,10 +330,7 @@ fn read_command(alloc: Global, name: &str, given: &ArgMatches<'_>) -> Result<Lin
 {
     match name {
         "token" => Ok(Line::Token(read_token(alloc, given)?)),
-        "cover" => match read_cover(given) {
-            Some(cover) => Ok(Line::Cover(cover)),
-            None => Err(WordsFault::Value),
-        },
+        "cover" => Ok(Line::Cover(read_cover(given).ok_or(WordsFault::Value)?)),
         "play" => Ok(Line::Play(read_play(alloc, given)?)),
         "serve" => Ok(Line::Serve(read_serve(alloc, given)?)),
         "enrol" => Ok(Line::Enrol(read_enrol(alloc, given)?)),
@@ -359,9 +348,7 @@ fn read_play(alloc: Global, given: &ArgMatches<'_>) -> Result<PlayArgs, WordsFau
     ensures given { IfOk result (IsPlayGiven (rows_of (found_of given.now))) }
     ensures refused { RefusesOnlyWithout (IsPlayGiven (rows_of (found_of given.now))) result }
 {
-    let Some(moment) = read_moment(given) else {
-        return Err(WordsFault::Value);
-    };
+    let moment = read_moment(given).ok_or(WordsFault::Value)?;
     Ok(PlayArgs {
         desk: read_desk(alloc, given, None)?,
         moment,
@@ -414,10 +401,8 @@ fn read_token(alloc: Global, given: &ArgMatches<'_>) -> Result<String, WordsFaul
     ensures given { IfOk result (λ token. IsTextGiven (rows_of (found_of given.now)) (string_bytes token)) }
     ensures refused { RefusesOnlyWithout (IsTextGiven (rows_of (found_of given.now))) result }
 {
-    match argument(given, "token") {
-        Some(token) => Ok(String::from_str(alloc, token)?),
-        None => Err(WordsFault::Value),
-    }
+    let token = argument(given, "token").ok_or(WordsFault::Value)?;
+    Ok(String::from_str(alloc, token)?)
 }
 
 // Reads the arguments of `serve`. `Value` if a number is out of range, or if a list of priorities or an
@@ -428,12 +413,8 @@ fn read_serve(alloc: Global, given: &ArgMatches<'_>) -> Result<ServeArgs, WordsF
     ensures refused { RefusesOnlyWithout (λ serve. IsServe serve
         × IsServeGiven (rows_of (found_of given.now)) serve) result }
 {
-    let Some(port) = read_port(given) else {
-        return Err(WordsFault::Value);
-    };
-    let Some(connections) = read_connections(given) else {
-        return Err(WordsFault::Value);
-    };
+    let port = read_port(given).ok_or(WordsFault::Value)?;
+    let connections = read_connections(given).ok_or(WordsFault::Value)?;
     Ok(ServeArgs {
         desk: read_desk(alloc, given, argument(given, "operators"))?,
         port,
@@ -449,10 +430,7 @@ fn read_port(given: &ArgMatches<'_>) -> Option<u16>
         → IsNumberGiven (codes "port") (rows_of (found_of given.now)) n → ⊥ }
 {
     let port = read_u16(given, "port")?;
-    if port == 0 {
-        return None;
-    }
-    Some(port)
+    (port != 0).then_some(port)
 }
 
 // Reads how many connections are served. None if that is missing or not from 1 to `MAX_CONNECTIONS`.
@@ -463,13 +441,9 @@ fn read_connections(given: &ArgMatches<'_>) -> Option<u32>
         → IsNumberGiven (codes "connections") (rows_of (found_of given.now)) n → ⊥ }
 {
     let connections = read_u32(given, "connections")?;
-    if connections == 0 {
-        return None;
-    }
-    if connections > MAX_CONNECTIONS {
-        return None;
-    }
-    Some(connections)
+    (1..=MAX_CONNECTIONS)
+        .contains(&connections)
+        .then_some(connections)
 }
 
 // Reads the path of the journal's folder (`--record`), if one is given.
@@ -550,9 +524,7 @@ fn read_enrol(alloc: Global, given: &ArgMatches<'_>) -> Result<EnrolArgs, WordsF
     ensures given { IfOk result (IsEnrolGiven (rows_of (found_of given.now))) }
     ensures refused { RefusesOnlyWithout (IsEnrolGiven (rows_of (found_of given.now))) result }
 {
-    let Some(enrolment) = read_operator(given) else {
-        return Err(WordsFault::Value);
-    };
+    let enrolment = read_operator(given).ok_or(WordsFault::Value)?;
     Ok(EnrolArgs {
         desk: read_bare_desk(alloc, given)?,
         enrolment,
@@ -577,9 +549,7 @@ fn read_copy(alloc: Global, given: &ArgMatches<'_>) -> Result<CopyArgs, WordsFau
     ensures given { IfOk result (IsCopyGiven (rows_of (found_of given.now))) }
     ensures refused { RefusesOnlyWithout (IsCopyGiven (rows_of (found_of given.now))) result }
 {
-    let Some(to) = argument(given, "to") else {
-        return Err(WordsFault::Value);
-    };
+    let to = argument(given, "to").ok_or(WordsFault::Value)?;
     Ok(CopyArgs {
         database: read_database(alloc, given)?,
         to: String::from_str(alloc, to)?,
@@ -593,9 +563,7 @@ fn read_replay(alloc: Global, given: &ArgMatches<'_>) -> Result<ReplayArgs, Word
     ensures refused { RefusesOnlyWithout (λ replay. IsReplay replay
         × IsReplayGiven (rows_of (found_of given.now)) replay) result }
 {
-    let Some(until) = read_until(given) else {
-        return Err(WordsFault::Value);
-    };
+    let until = read_until(given).ok_or(WordsFault::Value)?;
     Ok(ReplayArgs {
         database: read_database(alloc, given)?,
         until,
@@ -611,10 +579,7 @@ fn read_until(given: &ArgMatches<'_>) -> Option<Option<u64>>
         → IsNumberOrNone (codes "until") (rows_of (found_of given.now)) found → ⊥ }
 {
     let until = read_u64_if_given(given, "until")?;
-    if !until.is_none_or(is_moment) {
-        return None;
-    }
-    Some(until)
+    until.is_none_or(is_moment).then_some(until)
 }
 
 // Whether the Unix second `second` is a moment: at most `MAX_SECOND`.
@@ -652,22 +617,9 @@ pub(crate) fn argument<'a>(given: &ArgMatches<'a>, id: &str) -> Option<&'a str>
 fn read_database(alloc: Global, given: &ArgMatches<'_>) -> Result<Database, AllocError>
     ensures { IfOk result (λ database. file_of database ≡ file_given (rows_of (found_of given.now))) }
 {
-    parse_database(alloc, argument(given, "database"))
-}
-
-// The database that `word` names: in memory if it is `:memory:` or missing, else the file of this path.
-fn parse_database(alloc: Global, word: Option<&str>) -> Result<Database, AllocError>
-    ensures { IfOk result (λ database.
-        file_of database ≡ named_file (option_map (λ path. path.now) word.entry)) }
-{
-    match word {
-        None => Ok(Database::InMemory),
-        Some(path) => {
-            if path == IN_MEMORY {
-                return Ok(Database::InMemory);
-            }
-            Ok(Database::File(String::from_str(alloc, path)?))
-        }
+    match argument(given, "database") {
+        Some(path) if path != IN_MEMORY => Ok(Database::File(String::from_str(alloc, path)?)),
+        _ => Ok(Database::InMemory),
     }
 }
 
@@ -678,25 +630,9 @@ fn read_terms(alloc: Global, given: &ArgMatches<'_>) -> Result<Terms, WordsFault
 {
     Ok(Terms {
         permitted: read_permitted(alloc, given)?,
-        spans: read_spans(given)?,
-        cells: read_cells(given)?,
+        spans: read_limit(given, "spans", MAX_SPANS)?,
+        cells: read_limit(given, "cells", MAX_TOTAL_CELLS)?,
     })
-}
-
-// Reads the limit on the spans of an operator's live plans. None if the option is missing.
-fn read_spans(given: &ArgMatches<'_>) -> Result<Option<u32>, WordsFault>
-    ensures given { IfOk result (IsSpanLimitGiven (rows_of (found_of given.now))) }
-    ensures refused { RefusesOnlyWithout (IsSpanLimitGiven (rows_of (found_of given.now))) result }
-{
-    read_limit(given, "spans", MAX_SPANS)
-}
-
-// Reads the limit on the cells of all plans of an operator. None if the option is missing.
-fn read_cells(given: &ArgMatches<'_>) -> Result<Option<u32>, WordsFault>
-    ensures given { IfOk result (IsCellLimitGiven (rows_of (found_of given.now))) }
-    ensures refused { RefusesOnlyWithout (IsCellLimitGiven (rows_of (found_of given.now))) result }
-{
-    read_limit(given, "cells", MAX_TOTAL_CELLS)
 }
 
 // Reads the limit `id`: `Some` from 1 to `greatest`, None if the option is missing. `Value` for other values.
@@ -704,9 +640,7 @@ fn read_limit(given: &ArgMatches<'_>, id: &str, greatest: u32) -> Result<Option<
     ensures given { IfOk result (IsLimitGiven id.now greatest (rows_of (found_of given.now))) }
     ensures refused { RefusesOnlyWithout (IsLimitGiven id.now greatest (rows_of (found_of given.now))) result }
 {
-    let Some(limit) = read_u32_if_given(given, id) else {
-        return Err(WordsFault::Value);
-    };
+    let limit = read_u32_if_given(given, id).ok_or(WordsFault::Value)?;
     if !is_valid_limit(limit, greatest) {
         return Err(WordsFault::Value);
     }
@@ -717,10 +651,7 @@ fn read_limit(given: &ArgMatches<'_>, id: &str, greatest: u32) -> Result<Option<
 fn is_valid_limit(limit: Option<u32>, greatest: u32) -> bool
     ensures { IsTrue result ↔ IfSome limit (IsInRange min_limit greatest) }
 {
-    match limit {
-        Some(limit) => (1..=greatest).contains(&limit),
-        None => true,
-    }
+    limit.is_none_or(|limit| (1..=greatest).contains(&limit))
 }
 
 // Reads the argument `id` as a `u32`: `Some(None)` if it is missing, None if it is out of range.

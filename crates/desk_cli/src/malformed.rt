@@ -12,12 +12,6 @@ use clap::ArgMatches;
 use desk_rules::operator::Operator;
 use std::alloc::Global;
 
-const NO_PAIR: &str = "no NAME=CEILING";
-
-const NO_NAME: &str = "no operator's name: 1 to 32 of a to z, 0 to 9 and -";
-
-const NO_CEILING: &str = "no ceiling: a number from 0 to 1000, of at most 4 digits";
-
 const NO_LIST: &str =
     "no list of priorities: at most 32 from 0 to 1000, ascending, with commas between";
 
@@ -57,10 +51,8 @@ fn malformed_operator<'w>(given: &ArgMatches<'w>) -> Option<(&'w str, &'static s
         return Some((name, cause));
     }
     let ceiling = argument(given, "CEILING")?;
-    match ceiling_cause(ceiling) {
-        Some(cause) => Some((ceiling, cause)),
-        None => None,
-    }
+    let cause = ceiling_cause(ceiling)?;
+    Some((ceiling, cause))
 }
 
 // The first malformed argument of `play` or `serve`: the value of `--equal`, or an enrolment.
@@ -109,7 +101,7 @@ fn enrolment_cause(word: &str) -> Option<&'static str>
     ensures { is_some result ≡ is_none (enrolment_in word.now) }
 {
     match word.split_once('=') {
-        None => Some(NO_PAIR),
+        None => Some("no NAME=CEILING"),
         Some((name, ceiling)) => pair_cause(name, ceiling),
     }
 }
@@ -118,10 +110,7 @@ fn enrolment_cause(word: &str) -> Option<&'static str>
 fn pair_cause(name: &str, ceiling: &str) -> Option<&'static str>
     ensures { is_some result ≡ is_none (enrolment_by name.now ceiling.now) }
 {
-    match name_cause(name) {
-        Some(cause) => Some(cause),
-        None => ceiling_cause(ceiling),
-    }
+    name_cause(name).or_else(|| ceiling_cause(ceiling))
 }
 
 // Why `name` is no operator's name. None if it is one.
@@ -130,7 +119,7 @@ fn name_cause(name: &str) -> Option<&'static str>
 {
     match Operator::try_new(name.as_bytes()) {
         Some(_) => None,
-        None => Some(NO_NAME),
+        None => Some("no operator's name: 1 to 32 of a to z, 0 to 9 and -"),
     }
 }
 
@@ -140,6 +129,6 @@ fn ceiling_cause(ceiling: &str) -> Option<&'static str>
 {
     match parse_priority(ceiling) {
         Some(_) => None,
-        None => Some(NO_CEILING),
+        None => Some("no ceiling: a number from 0 to 1000, of at most 4 digits"),
     }
 }

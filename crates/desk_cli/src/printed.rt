@@ -40,13 +40,16 @@ fn print_output<W: Write>(alloc: Global, line: &Line, output: &mut W) -> Result<
     requires { IsTokenOrCover line.now }
     ensures { IsShown line.now result (W.contents output.old) (W.contents output.new) }
 {
-    let text = output_text(alloc, line)?;
-    write_text(output, &text)
+    write_text(output, &output_text(alloc, line)?)
 }
 
-// Writes `text`, up to the first write that fails; the error is `Write` then.
+/// Writes `text`, up to the first write that fails.
+///
+/// # Errors
+///
+/// `Write` if a write fails.
 #[tactic(auto, using(crate::proofs::WrittenLemmas::begun_part))]
-fn write_text<W: Write>(output: &mut W, text: &str) -> Result<(), ErrorCode>
+pub fn write_text<W: Write>(output: &mut W, text: &str) -> Result<(), ErrorCode>
     ensures ok { OnOk result (Appends (W.contents output.old) (W.contents output.new) text.now) }
     ensures err { IfErr result (λ f. (f ≡ Write)
         × IsPartlyWritten text.now (W.contents output.old) (W.contents output.new)) }

@@ -2,7 +2,7 @@
 
 ghost use Rattle.std.specs.Prelude.{◌≡◌, IfOk, map, string_bytes};
 ghost use Rattle.desk_cli.specs.Malformed as spec;
-ghost use Rattle.desk_cli.specs.Malformed.{IsMalformedReported, IsPrintedPart, IsReported};
+ghost use Rattle.desk_cli.specs.Malformed.{IsMalformedReported, IsReported};
 
 use crate::malformed::find_malformed_argument;
 use io_ends::write_whole;
@@ -11,26 +11,22 @@ use std::io::Write;
 
 /// Prints `uss_desk: PLACE: TEXT` to `errors`; `place` is an argument or the path of a file. Write errors are
 /// ignored; if memory runs out, nothing is printed.
-#[tactic(auto, using(crate::proofs::ReportLemmas::nothing_reported))]
+#[tactic(auto, using(crate::proofs::ReportLemmas::nothing_reported, crate::proofs::ReportLemmas::printed_line, crate::proofs::ReportLemmas::broken_line))]
 pub fn report<E: Write>(alloc: Global, place: &str, text: &str, errors: &mut E)
     ensures { IsReported place.now text.now (E.contents errors.old) (E.contents errors.new) }
 {
     if let Ok(line) = report_line(alloc, place, text) {
-        write_line(&line, errors);
+        let _ = write_whole(errors, line.as_bytes());
     }
 }
 
-// Writes `line`, up to the first write that fails. The write error is ignored.
-#[tactic(auto, using(crate::proofs::ReportLemmas::printed_line, crate::proofs::ReportLemmas::broken_line))]
-fn write_line<E: Write>(line: &str, errors: &mut E)
-    ensures { IsPrintedPart line.now (E.contents errors.old) (E.contents errors.new) }
-{
-    let _ = write_whole(errors, line.as_bytes());
-}
-
-// The line `uss_desk: PLACE: TEXT`, with its line feed.
+/// The line `uss_desk: PLACE: TEXT`, with its line feed.
+///
+/// # Errors
+///
+/// `AllocError` if memory runs out.
 #[tactic(auto, unfolding(crate::specs::Malformed::report_line))]
-fn report_line(alloc: Global, place: &str, text: &str) -> Result<String, AllocError>
+pub fn report_line(alloc: Global, place: &str, text: &str) -> Result<String, AllocError>
     ensures { IfOk result (λ line. string_bytes line ≡ spec.report_line place.now text.now) }
 {
     format!(in alloc; "uss_desk: {place}: {text}\n")

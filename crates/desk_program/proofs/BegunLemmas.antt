@@ -1,27 +1,10 @@
 -- What is written of a line.
-use Rattle.std.proofs.Common.{◌≡◌, ◌≢◌, ◌<◌, ℕ, List, [], Option, Result, Ok, Err, IfErr, OnOk, ap, drop, inl, inr, length, length-drop, refl, subst, sym, take, arith}
-use Rattle.std.proofs.lemmas.List.{take-append-drop}
+use Rattle.std.proofs.Common.{◌≡◌, ℕ, List, Option, Result, Ok, Err, IfErr, OnOk, inl, inr, refl, subst, sym}
 use Rattle.std.specs.Io.KnownBytes.{Appends}
 use Rattle.std.specs.Result.{IsErrAnd}
-use Rattle.io_ends.specs.Writing.{BreaksOff}
-use Rattle.io_ends.specs.declared.writing.PartialWrite.{PartialWrite}
 use Rattle.desk_cli.specs.declared.failure.ErrorCode.{ErrorCode}
 use Rattle.desk_cli.specs.Exits.{IsAnnounced, IsPartlyWritten}
 use Rattle.desk_cli.specs.declared.failure.ErrorCode.TheVariants as failure
-
-some_left : (n : ℕ) (bytes : List ℕ) → n < length bytes → drop n bytes ≢ []
-some_left n bytes short none = omega (arith, short, ap length none, length-drop n bytes)
-
--- what a write that broke off leaves
-pub begun_part : (bytes : List ℕ) (out now : Option (List ℕ)) (fault : PartialWrite)
-    → BreaksOff bytes out now fault → IsPartlyWritten bytes out now
-begun_part bytes out now fault off = record {
-  begun = take fault.sent bytes;
-  rest = drop fault.sent bytes;
-  parts = sym (take-append-drop fault.sent bytes);
-  left = some_left fault.sent bytes off.short;
-  written = off.written;
-}
 
 -- the printing of a line, by what came of it
 pub announced_by : {A : Type 0} (done : Result A ErrorCode) (line : List ℕ) (out now : Option (List ℕ))

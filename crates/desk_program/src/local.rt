@@ -113,9 +113,7 @@ impl<'s, N: Net, C: Clock, G: EnrolmentSource + Drop, E: Write> Port for LocalPo
         ErrorCode,
     > {
         let stream = self.next_stream()?;
-        let Ok(now) = SystemTime::now(self.clock) else {
-            return Err(ErrorCode::Clock);
-        };
+        let now = SystemTime::now(self.clock).map_err(|_| ErrorCode::Clock)?;
         connection_of(alloc, self.clock, now, stream)
     }
 
@@ -215,20 +213,16 @@ where
     ensures moment { IfOk result (λ c. moment_at (system_time_nanos now) ≡ Some c.moment.second) }
     ensures fault { IfErr result IsPortError }
 {
-    let Some(moment) = moment_in(now) else {
-        return Err(ErrorCode::Clock);
-    };
-    let Ok(other) = stream.try_clone() else {
-        return Err(ErrorCode::Network);
-    };
-    match BufReader::new(alloc, DeadlineStream::new(stream, clock)) {
-        Ok(input) => Ok(ClientStream {
-            moment,
-            input,
-            output: DeadlineStream::new(other, clock),
-        }),
-        Err(_) => Err(ErrorCode::Memory),
-    }
+    let moment = moment_in(now).ok_or(ErrorCode::Clock)?;
+    let other = stream.try_clone().map_err(|_| ErrorCode::Network)?;
+    let input = BufReader::new(alloc, DeadlineStream::new(stream, clock)).map_err(
+        |_| ErrorCode::Memory,
+    )?;
+    Ok(ClientStream {
+        moment,
+        input,
+        output: DeadlineStream::new(other, clock),
+    })
 }
 
 // The timestamp of a system time, in whole seconds, rounded down; `None` if it isn't from 0 to `MAX_SECOND`

@@ -20,19 +20,6 @@ use io_ends::{PlayEnd, write_whole};
 use std::alloc::{AllocError, Global};
 use std::io::{Read, Write};
 
-// The error code of a run over an input, by how the run ended; `None` if it ended with the input.
-fn failure_after(ended: PlayEnd) -> Option<ErrorCode>
-    ensures { result ≡ spec.failure_after ended }
-{
-    match ended {
-        PlayEnd::End => None,
-        PlayEnd::Unframed => Some(ErrorCode::Unframed),
-        PlayEnd::Broken => Some(ErrorCode::Broken),
-        PlayEnd::Limit => Some(ErrorCode::Limit),
-        PlayEnd::Fault(fault) => Some(ErrorCode::from(fault)),
-    }
-}
-
 /// Runs the command `play` with the arguments `line` at a desk: sets its terms, enrols operators, and answers
 /// the requests of the input. If an enrolment fails, nothing is read. Returns the exit report. An error code
 /// goes to `errors`; a failed write there is ignored.
@@ -107,9 +94,12 @@ fn enrolled_text(alloc: Global, enrolment: &Enrolment) -> Result<String, AllocEr
 fn play_result(ended: PlayEnd) -> Result<(), ErrorCode>
     ensures { result ≡ done_unless (spec.failure_after ended) }
 {
-    match failure_after(ended) {
-        None => Ok(()),
-        Some(failure) => Err(failure),
+    match ended {
+        PlayEnd::End => Ok(()),
+        PlayEnd::Unframed => Err(ErrorCode::Unframed),
+        PlayEnd::Broken => Err(ErrorCode::Broken),
+        PlayEnd::Limit => Err(ErrorCode::Limit),
+        PlayEnd::Fault(fault) => Err(ErrorCode::from(fault)),
     }
 }
 

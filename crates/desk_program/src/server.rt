@@ -1,9 +1,8 @@
 //! The command `serve`: one request per connection, one connection after the other.
 
-ghost use Rattle.std.specs.Prelude.{◌≡◌, ◌≤◌, IfOk, IfErr, OnOk, string_bytes};
-ghost use Rattle.std.specs.Io.KnownBytes.{Appends};
+ghost use Rattle.std.specs.Prelude.{◌≡◌, IfOk, IfErr, string_bytes};
 ghost use Rattle.desk_store.specs.Changes.{Remembers, IsHonest};
-ghost use Rattle.desk_cli.specs.{Exits.IsAnnounced, Exits.failure_at, Exits.IsPartlyWritten, Lines.IsPlay, Lines.IsServe};
+ghost use Rattle.desk_cli.specs.{Exits.IsAnnounced, Exits.failure_at, Lines.IsPlay, Lines.IsServe};
 ghost use Rattle.desk_run.specs.{Calls.FindsOnly, Verdicts.world_of};
 ghost use Rattle.desk_wire.specs.Streams.{course};
 ghost use Rattle.desk_program.specs.{Enrolling.HasCause, Enrolling.IsEndCounted, PortGiven.IsInputKept, PortGiven.IsInputPlayed, Keeping.AreKept, Keeping.IsPortKept, Keeping.IsServeKept, Keeping.bytes_written, Keeping.ended};
@@ -12,11 +11,11 @@ ghost use Rattle.desk_program.specs.Serving.{IsAskedToListen, IsAtPort, IsPortEr
 
 use crate::port::{ClientStream, ExchangeEnd, Port};
 use crate::program::{enrol_new, set_up};
-use desk_cli::{ErrorCode, ExitReport, PlayArgs, ServeArgs, report_exit};
+use desk_cli::{ErrorCode, ExitReport, PlayArgs, ServeArgs, report_exit, write_text};
 use desk_run::Desk;
 use desk_store::PlanStore;
 use desk_wire::serve_one;
-use io_ends::{ServeFault, Served, write_whole};
+use io_ends::{ServeFault, Served};
 use std::alloc::{AllocError, Global};
 use std::io::Write;
 
@@ -95,18 +94,7 @@ fn listen<P: Port, W: Write>(
 {
     port.listen(number)?;
     let text = listening_text(alloc, number)?;
-    print_text(output, &text)
-}
-
-// Prints `text`, up to the first write that fails; the error is `Write` then.
-#[tactic(auto, using(crate::proofs::BegunLemmas::begun_part))]
-fn print_text<W: Write>(output: &mut W, text: &str) -> Result<(), ErrorCode>
-    ensures ok { OnOk result (Appends (W.contents output.old) (W.contents output.new) text.now) }
-    ensures err { IfErr result (λ f. (f ≡ ErrorCode.Write)
-        × IsPartlyWritten text.now (W.contents output.old) (W.contents output.new)) }
-{
-    write_whole(output, text.as_bytes())?;
-    Ok(())
+    write_text(output, &text)
 }
 
 // The line that says that the port number `port` of 127.0.0.1 is open.

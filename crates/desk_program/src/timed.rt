@@ -160,10 +160,8 @@ fn time_left(now: Instant, end: &mut Option<Instant>) -> io::Result<Duration>
 fn end_after(now: Instant) -> io::Result<Instant>
     ensures { IfOk result (λ end. instant_nanos end ≡ instant_nanos now + patience) }
 {
-    match now.checked_add(Duration::from_secs(PATIENCE)) {
-        Some(end) => Ok(end),
-        None => Err(io::Error::from(ErrorKind::TimedOut)),
-    }
+    now.checked_add(Duration::from_secs(PATIENCE))
+        .ok_or(io::Error::from(ErrorKind::TimedOut))
 }
 
 // How long it is from `now` until the deadline `end`, not 0; the error `TimedOut` if that has come.

@@ -3,7 +3,7 @@
 ghost use Rattle.std.specs.Prelude.{◌≡◌, ◌++◌, map, option_to_list, IfOk, OnErr, OnOk};
 ghost use Rattle.desk_record.specs.Record.{entries};
 ghost use Rattle.desk_recording.specs.RecordWrites.{header, header_writes, permitted_below, permitted_if, limit_entry, Appended, FollowsWrites, StopsWriting};
-ghost use Rattle.desk_program.specs.Enrolling.{operator_entry};
+ghost use Rattle.desk_program.specs.Enrolling.{AreNamed, operator_entry};
 
 use crate::journal::{AppendError, Journal, append_to, sync_to};
 use desk_cli::Enrolment;
@@ -96,14 +96,16 @@ fn write_limit(text: &mut Vec<u8>, kind: Kind, limit: Option<u32>) -> Result<(),
     }
 }
 
-/// Appends an entry for each operator to `text`, in their order.
+/// Appends an entry for each operator to `text`, in their order: its ceiling, and its name as the bytes. That
+/// each name is valid (`named`) is so of any `Enrolment`.
 ///
 /// # Errors
 ///
 /// `AllocError` if memory runs out: some of them may be appended.
 pub(crate) fn write_operators(text: &mut Vec<u8>, operators: &[Enrolment]) -> Result<(), AllocError>
-    ensures { OnOk result (text.new.items ≡ text.old.items
+    ensures text { OnOk result (text.new.items ≡ text.old.items
         ++ entries (map operator_entry operators.now)) }
+    ensures named { OnOk result (AreNamed operators.now) }
 {
     for enrolment in operators {
         write_entry(

@@ -64,10 +64,7 @@ pub(crate) fn append_to<J: Journal>(
         (Appended bytes.now) }
     ensures fault { IfErr result IsJournalFault }
 {
-    match journal.append(bytes) {
-        Ok(()) => Ok(()),
-        Err(fault) => Err(AppendError::Journal(fault)),
-    }
+    journal.append(bytes).map_err(AppendError::Journal)
 }
 
 /// Flushes all that was appended to `journal` to the disk.
@@ -79,8 +76,5 @@ pub(crate) fn sync_to<J: Journal>(journal: &mut J) -> Result<(), AppendError<J::
     ensures done { MakesWrite (J.writes journal.old) (J.writes journal.new) (is_ok result) Synced }
     ensures fault { IfErr result IsJournalFault }
 {
-    match journal.sync() {
-        Ok(()) => Ok(()),
-        Err(fault) => Err(AppendError::Journal(fault)),
-    }
+    journal.sync().map_err(AppendError::Journal)
 }

@@ -231,10 +231,7 @@ fn close_result(is_lost: bool, closed: Result<(), ErrorCode>) -> Result<(), Erro
     if is_lost {
         return Err(ErrorCode::Broken);
     }
-    match closed {
-        Ok(()) => Ok(()),
-        Err(failure) => Err(port_error(failure)),
-    }
+    closed.map_err(port_error)
 }
 
 // Appends the answer of the `connection` to the journal and then sends it to the client. If the answer isn't
@@ -304,21 +301,13 @@ fn receive_or_empty<R: Read>(alloc: Global, client: &mut R) -> Result<Received<R
     ensures { IfOk result (λ received. IsReceived (is_some received.unread) (R.remaining client.old)
         (R.remaining client.new) received.request.items) }
 {
-    match receive(alloc, client) {
-        Ok(request) => Ok(Received {
-            request,
-            unread: None,
-        }),
-        Err(ReceiveFault::CutShort) => Ok(Received {
-            request: Vec::new(alloc),
-            unread: None,
-        }),
-        Err(ReceiveFault::Unread(unread)) => Ok(Received {
-            request: Vec::new(alloc),
-            unread: Some(unread),
-        }),
-        Err(ReceiveFault::OutOfMemory) => Err(AllocError),
-    }
+    let (request, unread) = match receive(alloc, client) {
+        Ok(request) => (request, None),
+        Err(ReceiveFault::CutShort) => (Vec::new(alloc), None),
+        Err(ReceiveFault::Unread(unread)) => (Vec::new(alloc), Some(unread)),
+        Err(ReceiveFault::OutOfMemory) => return Err(AllocError),
+    };
+    Ok(Received { request, unread })
 }
 
 // Sends the answer 500 with the error `store`: the request or its answer can't be written to the journal.

@@ -83,10 +83,7 @@ fn is_missing(roll: &[Enrolment], enrolment: &Enrolment) -> bool
     ensures missing { result ≡ spec.is_missing roll.now enrolment.now }
     ensures in_range { IsTrue result → enrolment.now.ceiling ≤ max_priority }
 {
-    if enrolment.ceiling > MAX_PRIORITY {
-        return false;
-    }
-    !is_enrolled(roll, &enrolment.operator)
+    enrolment.ceiling <= MAX_PRIORITY && !is_enrolled(roll, &enrolment.operator)
 }
 
 // Whether `operator` is on the `roll` of enrolled operators.

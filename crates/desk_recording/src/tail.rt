@@ -169,11 +169,11 @@ fn apply_by_kind(tail: &mut Tail, kind: Kind, number: u64, bytes: Vec<u8>) -> Re
 {
     match kind {
         Kind::Record => apply_header(tail, number, &bytes),
-        Kind::Permitted if !bytes.is_empty() => Err(TailFault::NoRecord),
+        Kind::Permitted | Kind::Spans | Kind::Cells if !bytes.is_empty() => Err(
+            TailFault::NoRecord,
+        ),
         Kind::Permitted => apply_permitted(tail, number),
-        Kind::Spans if !bytes.is_empty() => Err(TailFault::NoRecord),
         Kind::Spans => apply_spans_limit(tail, number),
-        Kind::Cells if !bytes.is_empty() => Err(TailFault::NoRecord),
         Kind::Cells => apply_cells_limit(tail, number),
         Kind::Operator => apply_operator(tail, number, &bytes),
         Kind::Request => apply_request(tail, number, bytes),
@@ -188,10 +188,7 @@ fn apply_header(tail: &mut Tail, number: u64, version: &[u8]) -> Result<(), Tail
     ensures { Notes result (spec.tail_with_header (tail_shown tail.old) number version.now)
         (tail_shown tail.new) }
 {
-    if tail.record.is_some() {
-        return Err(TailFault::NoRecord);
-    }
-    if version != VERSION {
+    if tail.record.is_some() || version != VERSION {
         return Err(TailFault::NoRecord);
     }
     tail.record = Some(number);
@@ -209,10 +206,7 @@ fn apply_permitted(tail: &mut Tail, priority: u64) -> Result<(), TailFault>
     if tail.permitted.push(priority as u32).is_err() {
         return Err(TailFault::OutOfMemory);
     }
-    let Ok(permitted) = Permitted::try_new(&tail.permitted) else {
-        return Err(TailFault::NoRecord);
-    };
-    tail.terms.permitted = permitted;
+    tail.terms.permitted = Permitted::try_new(&tail.permitted).map_err(|_| TailFault::NoRecord)?;
     Ok(())
 }
 
@@ -246,9 +240,7 @@ fn apply_operator(tail: &mut Tail, ceiling: u64, name: &[u8]) -> Result<(), Tail
     ensures { Notes result (spec.tail_with_operator (tail_shown tail.old) ceiling name.now)
         (tail_shown tail.new) }
 {
-    let Some(operator) = Operator::try_new(name) else {
-        return Err(TailFault::NoRecord);
-    };
+    let operator = Operator::try_new(name).ok_or(TailFault::NoRecord)?;
     if ceiling > u64::from(MAX_PRIORITY) {
         return Err(TailFault::NoRecord);
     }
@@ -270,10 +262,7 @@ fn apply_request(tail: &mut Tail, second: u64, request: Vec<u8>) -> Result<(), T
     ensures { Notes result (spec.tail_with_request (tail_shown tail.old) second request.items)
         (tail_shown tail.new) }
 {
-    if tail.asked.is_some() {
-        return Err(TailFault::NoRecord);
-    }
-    if second > MAX_SECOND as u64 {
+    if tail.asked.is_some() || second > MAX_SECOND as u64 {
         return Err(TailFault::NoRecord);
     }
     tail.operators.clear();

@@ -1,18 +1,19 @@
 //! The request journal over an append-only file.
 
-ghost use Rattle.std.specs.Prelude.{◌≡◌, map, nat_abs, [], ◌∷◌, None, IfOk, IfSome, OnErr, OnOk};
+ghost use Rattle.std.specs.Prelude.{◌≡◌, map, nat_abs, [], ◌∷◌, None, IfSome, OnErr, OnOk};
 ghost use Rattle.std.specs.Result.{is_ok};
 ghost use Rattle.desk_record.specs.Record.{entries, entry};
 ghost use Rattle.desk_program.specs.Enrolling.{AreNamed, operator_entry, request_entry, with_answer, with_news, with_request};
 ghost use Rattle.desk_recording.specs.Recording.{AddsIf, Answered, Asked, Enrolled, Notes, NotesOnDisk, parting_of};
 ghost use Rattle.desk_recording.specs.RecordWrites.{Appended, AppendsKnown, Failed, FollowsWrites, IsNotWritten, MakesWrite, StopsWriting, Synced, answer_writes, appended_writes, enrolment_writes, noted_in, request_writes};
 
+use crate::header::write_operators;
 use crate::journal::{AppendError, Journal, append_to, sync_to};
 use crate::record::{Exchange, Record};
 use desk_cli::Enrolment;
 use desk_record::{Kind, write_entry};
 use io_ends::Moment;
-use std::alloc::{AllocError, Global};
+use std::alloc::Global;
 
 /// A request journal that is written to an append-only file, entry by entry.
 #[derive(Drop)]
@@ -75,7 +76,8 @@ impl<J: Journal + Drop> WrittenRecord<J> {
         ensures named { OnOk result (AreNamed newly_enrolled.now) }
         ensures second { self.new.second ≡ self.old.second }
     {
-        let text = enrolment_entries(self.alloc, newly_enrolled)?;
+        let mut text = Vec::new(self.alloc);
+        write_operators(&mut text, newly_enrolled)?;
         append_text(&mut self.journal, &text)
     }
 }
@@ -90,23 +92,6 @@ fn append_text<J: Journal>(journal: &mut J, text: &[u8]) -> Result<(), AppendErr
     ensures text { AppendsKnown (J.writes journal.old) (J.writes journal.new) (is_ok result) text.now }
 {
     append_to(journal, text)
-}
-
-// The text of an entry for each new enrolment, in their order. Fails if memory runs out.
-fn enrolment_entries(alloc: Global, newly_enrolled: &[Enrolment]) -> Result<Vec<u8>, AllocError>
-    ensures text { IfOk result (λ text. text.items ≡ entries (map operator_entry newly_enrolled.now)) }
-    ensures named { IfOk result (λ _. AreNamed newly_enrolled.now) }
-{
-    let mut text = Vec::new(alloc);
-    for enrolment in newly_enrolled {
-        write_entry(
-            &mut text,
-            Kind::Operator,
-            u64::from(enrolment.ceiling),
-            enrolment.operator.as_str().as_bytes(),
-        )?;
-    }
-    Ok(text)
 }
 
 impl<J: Journal + Drop> Record for WrittenRecord<J> {

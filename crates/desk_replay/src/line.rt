@@ -1,6 +1,6 @@
 //! The command `replay`, once its database is open: the journal is replayed, and the result is printed.
 
-ghost use Rattle.std.specs.Prelude.{◌≡◌, ◌⊎◌, IfErr, IfOk, is_some, string_bytes};
+ghost use Rattle.std.specs.Prelude.{◌≡◌, ◌⊎◌, IfErr, IfOk, IfSome, is_some, option_map, string_bytes};
 ghost use Rattle.desk_store.specs.Changes.{IsHonest, Remembers};
 ghost use Rattle.desk_run.specs.Verdicts.{world_of};
 ghost use Rattle.desk_wire.specs.Streams.{course, passage};
@@ -79,50 +79,45 @@ fn report_end<W: Write, E: Write>(
 {
     let requests = replayed.progress.requests;
     let changes = replayed.progress.changes;
-    match end_error(replayed.ended) {
+    match end_fault(replayed.ended) {
         None => report_exit(errors, print_summary(alloc, requests, changes, output)),
-        Some(failure) => {
-            let cause = end_cause(replayed.ended);
+        Some((failure, cause)) => {
             report_cause(alloc, requests, replayed.place, cause, errors);
             report_exit(errors, Err(failure))
         }
     }
 }
 
-// The error code of the command, by how the replay ended. None if all was replayed that was to be.
-fn end_error(ended: ReplayEnd) -> Option<ErrorCode>
-    ensures { result ≡ spec.failure_of_end ended }
+// Why a replay didn't play all that was to be played: the error code of the command, and the cause in words
+// for the administrator, in which `record` stands for a journal. None if all was played.
+fn end_fault(ended: ReplayEnd) -> Option<(ErrorCode, &'static str)>
+    ensures code { option_map (λ why. why.0) result ≡ spec.failure_of_end ended }
+    ensures cause { IfSome result (λ why. why.1.now ≡ spec.cause_of_end ended) }
 {
-    match ended {
-        ReplayEnd::End | ReplayEnd::Until => None,
-        ReplayEnd::Unread(ReadFault::Read) => Some(ErrorCode::Read),
-        ReplayEnd::Unread(ReadFault::OutOfMemory) => Some(ErrorCode::Memory),
-        ReplayEnd::Unread(ReadFault::CutShort) => Some(ErrorCode::CutShort),
-        ReplayEnd::Unread(ReadFault::NoRecord) => Some(ErrorCode::NoRecord),
-        ReplayEnd::Unplayed(ReplayFault::OutOfMemory) => Some(ErrorCode::Memory),
-        ReplayEnd::Unplayed(ReplayFault::Store) => Some(ErrorCode::Store),
-        ReplayEnd::Unplayed(ReplayFault::NoRecord) => Some(ErrorCode::NoRecord),
-        ReplayEnd::Unplayed(ReplayFault::NotNext) => Some(ErrorCode::NoRecord),
-        ReplayEnd::Unplayed(ReplayFault::Differs) => Some(ErrorCode::Differs),
-    }
-}
-
-// Why a replay ended, in words for the administrator. In these a record is a journal.
-fn end_cause(ended: ReplayEnd) -> &'static str
-    ensures { result.now ≡ spec.cause_of_end ended }
-{
-    match ended {
-        ReplayEnd::End | ReplayEnd::Until => "all is played",
-        ReplayEnd::Unread(ReadFault::Read) => "a read failed",
-        ReplayEnd::Unread(ReadFault::OutOfMemory) => "memory ran out",
-        ReplayEnd::Unread(ReadFault::CutShort) => "an entry that is cut short",
-        ReplayEnd::Unread(ReadFault::NoRecord) => "no entry of a record",
-        ReplayEnd::Unplayed(ReplayFault::OutOfMemory) => "memory ran out",
-        ReplayEnd::Unplayed(ReplayFault::Store) => "the store failed",
-        ReplayEnd::Unplayed(ReplayFault::NoRecord) => "an entry that no record has there",
-        ReplayEnd::Unplayed(ReplayFault::NotNext) => "a record that is not the next one",
-        ReplayEnd::Unplayed(ReplayFault::Differs) => "another answer than the recorded one",
-    }
+    Some(match ended {
+        ReplayEnd::End | ReplayEnd::Until => return None,
+        ReplayEnd::Unread(ReadFault::Read) => (ErrorCode::Read, "a read failed"),
+        ReplayEnd::Unread(ReadFault::OutOfMemory) => (ErrorCode::Memory, "memory ran out"),
+        ReplayEnd::Unread(ReadFault::CutShort) => (
+            ErrorCode::CutShort,
+            "an entry that is cut short",
+        ),
+        ReplayEnd::Unread(ReadFault::NoRecord) => (ErrorCode::NoRecord, "no entry of a record"),
+        ReplayEnd::Unplayed(ReplayFault::OutOfMemory) => (ErrorCode::Memory, "memory ran out"),
+        ReplayEnd::Unplayed(ReplayFault::Store) => (ErrorCode::Store, "the store failed"),
+        ReplayEnd::Unplayed(ReplayFault::NoRecord) => (
+            ErrorCode::NoRecord,
+            "an entry that no record has there",
+        ),
+        ReplayEnd::Unplayed(ReplayFault::NotNext) => (
+            ErrorCode::NoRecord,
+            "a record that is not the next one",
+        ),
+        ReplayEnd::Unplayed(ReplayFault::Differs) => (
+            ErrorCode::Differs,
+            "another answer than the recorded one",
+        ),
+    })
 }
 
 // Prints the summary of a complete replay. `Memory` if there is no memory for it; `Write` if a write fails.
@@ -174,8 +169,5 @@ fn cause_line(alloc: Global, requests: u64, place: u64, cause: &str) -> Result<S
 fn write_line<E: Write>(errors: &mut E, text: &str) -> Option<WriteError<E>>
     ensures { IsWrittenOrCut (is_some result) text.now (E.contents errors.old) (E.contents errors.new) }
 {
-    match write_whole(errors, text.as_bytes()) {
-        Ok(()) => None,
-        Err(cut) => Some(cut),
-    }
+    write_whole(errors, text.as_bytes()).err()
 }

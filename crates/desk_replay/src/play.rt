@@ -70,11 +70,11 @@ fn play_entry_after_header<S: PlanStore>(
 {
     match kind {
         Kind::Record => Err(ReplayFault::NoRecord),
-        Kind::Permitted if !bytes.is_empty() => Err(ReplayFault::NoRecord),
+        Kind::Permitted | Kind::Spans | Kind::Cells if !bytes.is_empty() => Err(
+            ReplayFault::NoRecord,
+        ),
         Kind::Permitted => permit(desk, progress, number),
-        Kind::Spans if !bytes.is_empty() => Err(ReplayFault::NoRecord),
         Kind::Spans => limit_spans(desk, progress, number),
-        Kind::Cells if !bytes.is_empty() => Err(ReplayFault::NoRecord),
         Kind::Cells => limit_cells(desk, progress, number),
         Kind::Operator => enrol(desk, progress, number, &bytes),
         Kind::Request => replay_request(alloc, desk, progress, number, bytes),
@@ -128,10 +128,7 @@ fn replay_request<S: PlanStore>(
 fn has_changed(asking: &Option<UnansweredRequest>) -> bool
     ensures { result ≡ spec.has_changed (asking_in asking.now) }
 {
-    match asking {
-        Some(asking) => asking.made_change,
-        None => false,
-    }
+    matches!(asking, Some(asking) if asking.made_change)
 }
 
 // The count of requests that changed the database, after one more request. `now` is whether that changed it,
@@ -270,8 +267,5 @@ fn is_expected(asking: &UnansweredRequest, answer: &[u8]) -> bool
 fn is_first_answer(before: &Option<Vec<u8>>, answer: &[u8]) -> bool
     ensures { result ≡ spec.is_first (bytes_of (λ v. v.items) before.now) answer.now }
 {
-    match before {
-        Some(before) => answer == before.as_slice(),
-        None => false,
-    }
+    matches!(before, Some(before) if answer == before.as_slice())
 }

@@ -63,8 +63,5 @@ impl Progress {
 pub(crate) fn may_follow(last: Option<u64>, number: u64) -> bool
     ensures { result ≡ follows last number }
 {
-    match last {
-        None => true,
-        Some(last) => last < number && number - last == 1,
-    }
+    last.is_none_or(|last| last < number && number - last == 1)
 }

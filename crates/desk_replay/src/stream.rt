@@ -91,19 +91,14 @@ fn replay_next<S: PlanStore, R: Read>(
         (state_at S.content desk.old progress.old) (state_at S.content desk.new progress.new) }
     ensures remembered { Remembers S.doubt S.faults S.is_shielded desk.old.store desk.new.store }
 {
-    let entry = match read_entry(alloc, input) {
-        Ok(Some(entry)) => entry,
-        Ok(None) => return Err(ReplayEnd::End),
-        Err(fault) => return Err(ReplayEnd::Unread(fault)),
-    };
+    let read = read_entry(alloc, input).map_err(ReplayEnd::Unread)?;
+    let entry = read.ok_or(ReplayEnd::End)?;
     if is_after_until(until, &entry) {
         return Err(ReplayEnd::Until);
     }
     let size = entry_size(&entry);
-    match play_entry(alloc, desk, progress, entry) {
-        Ok(()) => Ok(size),
-        Err(fault) => Err(ReplayEnd::Unplayed(fault)),
-    }
+    play_entry(alloc, desk, progress, entry).map_err(ReplayEnd::Unplayed)?;
+    Ok(size)
 }
 
 // The length of the entry `one` in the journal, in bytes; at most `u64::MAX`.

@@ -127,9 +127,7 @@ pub(crate) fn enrol<S: PlanStore>(
         (λ s. listed s ceiling name.now) (course desk.old desk.new) (course progress.now progress.now) }
     ensures remembered { Remembers S.doubt S.faults S.is_shielded desk.old.store desk.new.store }
 {
-    let Some(operator) = Operator::try_new(name) else {
-        return Err(ReplayFault::NoRecord);
-    };
+    let operator = Operator::try_new(name).ok_or(ReplayFault::NoRecord)?;
     if ceiling > u64::from(MAX_PRIORITY) {
         return Err(ReplayFault::NoRecord);
     }
