@@ -131,9 +131,15 @@ struct FileStats {
     log: u64,
 }
 
-/// Runs the command `check`: prints the statistics of a database, and returns the exit report with the
-/// connection that read it, or why it can't be read. The file isn't changed; `start` stands for its content.
-/// Causes and error codes go to `writers.errors`; a failed write there is ignored.
+/// Runs the command `check`: prints the statistics of a database, which isn't changed, to `writers.output`.
+/// Returns the exit report with the connection that read it, or why it can't be read: the clause speaks of
+/// these, and the caller drops them. `start` stands for the content of the file.
+///
+/// # Errors
+///
+/// If the database can't be read (`Store` for one in memory), the cause and the error code go to
+/// `writers.errors`. If the statistics can't be printed, the code is `Write`, or `Memory` if memory ran out. A
+/// failed write to `writers.errors` leaves the exit status as it is.
 pub fn check_file<F: Start, W: Write + Drop, E: Write + Drop>(
     host: LocalHost<'_>,
     database: &Database,

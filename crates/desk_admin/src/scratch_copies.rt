@@ -300,8 +300,8 @@ fn report_order<E: Write>(alloc: Global, path: &str, errors: &mut E)
     report_text(alloc, path, order_text(), errors);
 }
 
-// The line that reports that so many `pages` have wrong checksums, and what is known of the rows
-// (`about_rows`, the words of `Rows::text`).
+// The line, with its line feed, that reports how many `pages` of the file at `path` have wrong checksums, and
+// what is known of its rows (`about_rows`, the words of `Rows::text`). Fails if memory runs out.
 #[tactic(auto, unfolding(crate::specs::ScratchCopies::bad_checksums_line))]
 fn bad_checksums_line(
     alloc: Global,

@@ -154,10 +154,7 @@ fn is_above(greatest: &Option<Greatest>, number: u64) -> bool
 fn journal_number(name: &str) -> Option<u64>
     ensures { IsNumberIn name.now result }
 {
-    match stem_of(name) {
-        Some(stem) => number_in_stem(stem),
-        None => None,
-    }
+    number_in_stem(stem_of(name)?)
 }
 
 // The name of a journal without its extension; `None` if the name has another extension.
@@ -181,13 +178,7 @@ fn number_in_stem(stem: &str) -> Option<u64>
 fn checked_number(number: &str, second: &str) -> Option<u64>
     ensures { result ≡ spec.checked_number number.now second.now }
 {
-    if number.len() < DIGITS {
-        return None;
-    }
-    if !are_digits(number) {
-        return None;
-    }
-    if !are_digits(second) {
+    if number.len() < DIGITS || !are_digits(number) || !are_digits(second) {
         return None;
     }
     number_of(number)
@@ -199,10 +190,7 @@ fn checked_number(number: &str, second: &str) -> Option<u64>
 fn number_of(digits: &str) -> Option<u64>
     ensures { spec.are_digits digits.now ≡ true → result ≡ spec.number_of digits.now }
 {
-    match u64::from_str_radix(digits, 10) {
-        Ok(number) => Some(number),
-        Err(_) => None,
-    }
+    u64::from_str_radix(digits, 10).ok()
 }
 
 // Whether a text is made of decimal digits, and not empty.
@@ -210,10 +198,7 @@ fn number_of(digits: &str) -> Option<u64>
 fn are_digits(text: &str) -> bool
     ensures { result ≡ spec.are_digits text.now }
 {
-    if text.is_empty() {
-        return false;
-    }
-    all_digits(text.as_bytes())
+    !text.is_empty() && all_digits(text.as_bytes())
 }
 
 // Whether all bytes are decimal digits.
@@ -272,8 +257,7 @@ pub fn move_rest(rt: &HostRuntime, journal: &JournalFile, size: u64) -> Result<(
     write_rest(rt, &journal.path, &rest)?;
     sync_folder(rt, &journal.path)?;
     file.set_len(size)?;
-    file.sync_all()?;
-    Ok(())
+    Ok(file.sync_all()?)
 }
 
 // Writes `rest` to the file `NAME.rest` beside the journal at `path`, and syncs it. An older one is replaced.
@@ -289,8 +273,7 @@ fn write_rest(rt: &HostRuntime, path: &str, rest: &[u8]) -> Result<(), JournalEr
         .mode(OWNER_ALONE)
         .open(rt, &path)?;
     file.write_all(rest)?;
-    file.sync_all()?;
-    Ok(())
+    Ok(file.sync_all()?)
 }
 
 /// Makes the file of the new journal with this number, under a temporary name in `folder`, and opens it for

@@ -44,10 +44,8 @@ pub fn find_log<F: HostFiles>(
     if is_gone(files.find(path)) && has_commit(alloc, files, path)? {
         return Ok(FoundLog::Alone);
     }
-    match log_beside(alloc, files, path)? {
-        Some(log) => Ok(FoundLog::Log(log)),
-        None => Ok(FoundLog::Nothing),
-    }
+    let log = log_beside(alloc, files, path)?;
+    Ok(log.map_or(FoundLog::Nothing, FoundLog::Log))
 }
 
 /// Whether the file at a path may have a WAL with a commit: one that is long enough. Links in the path aren't
@@ -93,16 +91,14 @@ fn needs_check<F: HostFiles>(files: &mut F, path: &str, real: &str, log: &str) -
     ensures same { F.answers files.new ≡ F.answers files.old }
     ensures opens { OpensAtMost F.HostFiles path.now files.old files.new }
 {
-    if size_at(files, real) == 0 {
-        return false;
-    }
-    if !may_be_damaged(size_at(files, log)) {
+    if size_at(files, real) == 0 || !may_be_damaged(size_at(files, log)) {
         return false;
     }
     !is_held(files.opening_denial(path))
 }
 
-// The size in bytes of the regular file to which a path leads; 0 if it leads to none.
+// The size in bytes of the regular file to which a path leads; 0 if it leads to anything else or can't be
+// followed, for whatever reason.
 fn size_at<F: HostFiles>(files: &F, path: &str) -> u64
     ensures { IfSome (F.answers files.now) (λ it. result ≡ spec.size_at it path.now) }
 {
@@ -113,20 +109,14 @@ fn size_at<F: HostFiles>(files: &F, path: &str) -> u64
 fn is_held(denial: Option<Denial>) -> bool
     ensures { result ≡ spec.is_held denial }
 {
-    match denial {
-        Some(Denial::Busy) => true,
-        _ => false,
-    }
+    matches!(denial, Some(Denial::Busy))
 }
 
 // Whether it is certain that a path leads to nothing, by what was found there; false after any other error.
 fn is_gone(found: Result<Found, ErrorKind>) -> bool
     ensures { result ≡ spec.is_gone found }
 {
-    match found {
-        Err(ErrorKind::NotFound) => true,
-        _ => false,
-    }
+    matches!(found, Err(ErrorKind::NotFound))
 }
 
 // The size in bytes of what was found at a path, if it is a regular file; 0 for anything else.

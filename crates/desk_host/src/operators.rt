@@ -261,10 +261,7 @@ fn read_text<F: HostFiles>(files: &F, alloc: Global, path: &str) -> Result<Strin
     ensures unread { IfSome (F.answers files.now) (λ it. IsUnreadIf (it.unread path.now) result) }
     ensures cause { IfErr result IsTextFault }
 {
-    match files.open(path) {
-        Ok(file) => text_in(alloc, file),
-        Err(kind) => Err(unread_by(kind)),
-    }
+    text_in(alloc, files.open(path).map_err(unread_by)?)
 }
 
 // The text of the open file `file`. At most one byte more than `MAX_BYTES` is read, to learn whether it is
@@ -352,10 +349,8 @@ fn report_if_malformed<E: Write>(
         (E.contents errors.old) (E.contents errors.new)) }
     ensures appended { Reports (bytes_written E.Write errors.old errors.new) }
 {
-    if is_malformed(line) {
-        if counted.malformed <= MAX_REPORTED_LINES {
-            report_line(alloc, path, counted.lines, errors)?;
-        }
+    if is_malformed(line) && counted.malformed <= MAX_REPORTED_LINES {
+        report_line(alloc, path, counted.lines, errors)?;
     }
     Ok(())
 }
@@ -382,10 +377,7 @@ fn report_rest<E: Write>(
 fn is_malformed(line: &str) -> bool
     ensures { result ≡ spec.is_malformed line.now }
 {
-    if line.is_empty() {
-        return false;
-    }
-    parse_enrolment_line(line).is_none()
+    !line.is_empty() && parse_enrolment_line(line).is_none()
 }
 
 // Reports that the line with this number, counted from 1, is malformed. Fails if memory runs out; a failed

@@ -30,10 +30,7 @@ impl ReadMode {
     pub fn is_mended(self) -> bool
         ensures { result ≡ spec.is_mended self }
     {
-        match self {
-            ReadMode::BadChecksums(_) | ReadMode::OtherOrder => true,
-            ReadMode::Itself | ReadMode::Damaged => false,
-        }
+        matches!(self, ReadMode::BadChecksums(_) | ReadMode::OtherOrder)
     }
 
     /// How many pages with wrong checksums were copied untested. `None` if none were, or if the copy
@@ -65,10 +62,7 @@ fn mode_at<F: HostFiles>(alloc: Global, files: &F, path: &str, is_damaged: bool)
     if is_damaged {
         return mode_for(true, None, false);
     }
-    if is_no_path(path) {
-        return ReadMode::Itself;
-    }
-    if has_changes(alloc, files, path) {
+    if is_no_path(path) || has_changes(alloc, files, path) {
         return ReadMode::Itself;
     }
     mode_for(

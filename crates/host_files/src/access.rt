@@ -68,10 +68,7 @@ fn bad_checksum_count<F: HostFiles>(files: &F, path: &str, state: FileState) -> 
     if !may_be_damaged(state) {
         return None;
     }
-    match files.bad_checksums(path) {
-        Some(0) | None => None,
-        Some(count) => Some(count),
-    }
+    files.bad_checksums(path).filter(|count| *count != 0)
 }
 
 // Whether a file may be refused for damaged pages: it can be opened, and begins as a database.
@@ -104,10 +101,7 @@ fn cause_of<P: Folder>(folder: &mut P, path: &str, state: FileState) -> &'static
     if !is_free(state) {
         return refusal_text(state);
     }
-    match folder.try_file(path) {
-        Some(cause) => cause,
-        None => refusal_text(state),
-    }
+    folder.try_file(path).unwrap_or(refusal_text(state))
 }
 
 // Whether a command makes the file and nothing is at its path. (For a command that makes none, nothing there
@@ -132,10 +126,7 @@ pub fn cause_at<F: HostFiles>(files: &mut F, path: &str) -> Option<&'static str>
     ensures text { IfSome result (λ cause. IsDenialText cause.now) }
     ensures opens { OpensAtMost F.HostFiles path.now files.old files.new }
 {
-    match probe_access(files, path) {
-        Some(denial) => Some(denial_text(denial)),
-        None => None,
-    }
+    probe_access(files, path).map(denial_text)
 }
 
 // The cause for a file that SQLite refuses, by what `probe` found at its path.

@@ -155,10 +155,8 @@ impl HostFiles for LocalHost<'_> {
     }
 
     fn real(&self, path: &str) -> Result<String, ErrorKind> {
-        match fs::canonicalize(self.rt, path) {
-            Ok(real) => Ok(real.into_string()),
-            Err(error) => Err(error.kind()),
-        }
+        let real = fs::canonicalize(self.rt, path).map_err(|error| error.kind())?;
+        Ok(real.into_string())
     }
 
     fn open(&self, path: &str) -> Result<File, ErrorKind> {
@@ -166,21 +164,17 @@ impl HostFiles for LocalHost<'_> {
     }
 
     fn writing_error(&self, path: &str) -> Option<ErrorKind> {
-        match OpenOptions::new()
+        let opened = OpenOptions::new()
             .read(true)
             .write(true)
-            .open(self.rt, path)
-        {
-            Ok(_) => None,
-            Err(error) => Some(error.kind()),
-        }
+            .open(self.rt, path);
+        opened.err().map(|error| error.kind())
     }
 
     fn opening_denial(&mut self, path: &str) -> Option<Denial> {
-        match sqlite_std_file::open(self.rt, path, Unknown) {
-            Ok(_) => None,
-            Err(error) => denial_by(error),
-        }
+        sqlite_std_file::open(self.rt, path, Unknown)
+            .err()
+            .and_then(denial_by)
     }
 
     fn bad_checksums(&self, path: &str) -> Option<u64> {
@@ -218,15 +212,13 @@ fn found_of(found: io::Result<Metadata>) -> Result<Found, ErrorKind>
     ensures { MatchResult found (λ said. IfOk result (IsFoundAs said))
         (λ error. result ≡ Err (error_kind error)) }
 {
-    match found {
-        Ok(found) => Ok(Found {
-            is_file: found.is_file(),
-            len: found.len(),
-            identity: Identity {
-                device: found.dev(),
-                inode: found.ino(),
-            },
-        }),
-        Err(error) => Err(error.kind()),
-    }
+    let found = found.map_err(|error| error.kind())?;
+    Ok(Found {
+        is_file: found.is_file(),
+        len: found.len(),
+        identity: Identity {
+            device: found.dev(),
+            inode: found.ino(),
+        },
+    })
 }

@@ -97,10 +97,8 @@ impl Folder for LocalHost<'_> {
             .write(true)
             .create_new(true)
             .open(self.rt, path);
-        match made.and_then(|_| fs::remove_file(self.rt, path)) {
-            Ok(()) => None,
-            Err(error) => Some(creation_error_text(error.kind())),
-        }
+        let removed = made.and_then(|_| fs::remove_file(self.rt, path));
+        removed.err().map(|error| creation_error_text(error.kind()))
     }
 
     fn scratch(&mut self, source: &str, scratch: &str, is_mended: bool) -> Option<ScratchFault> {
@@ -144,20 +142,14 @@ pub fn creation_error_text(kind: ErrorKind) -> &'static str
 pub fn is_no_path(path: &str) -> bool
     ensures { result ≡ access.is_no_path path.now }
 {
-    if path == ":memory:" {
-        return true;
-    }
-    path.as_bytes().starts_with(b"file:".as_slice())
+    path == ":memory:" || path.as_bytes().starts_with(b"file:".as_slice())
 }
 
 /// Whether it is certain that nothing exists at a path, not even a link; false if that can't be found out.
 pub(crate) fn is_missing<F: HostFiles>(files: &F, path: &str) -> bool
     ensures { IfSome (F.answers files.now) (λ it. result ≡ access.is_missing it path.now) }
 {
-    match files.find_entry(path) {
-        Err(ErrorKind::NotFound) => true,
-        _ => false,
-    }
+    matches!(files.find_entry(path), Err(ErrorKind::NotFound))
 }
 
 // Whether what is at `path` may be removed as left by an interrupted copy: nothing is there, or a regular
@@ -176,10 +168,10 @@ fn is_left<F: HostFiles>(files: &F, source: &str, path: &str) -> bool
 // missing. The WAL goes first: if that fails, both stay. Returns why they weren't removed, or `None`.
 fn clear_left(rt: &HostRuntime, part: &str, log: &str) -> Option<&'static str> {
     match sqlite_std_file::open(rt, part, Unknown) {
-        Ok(_held) => match fs::remove_file(rt, log).and_then(|()| fs::remove_file(rt, part)) {
-            Ok(()) => None,
-            Err(_) => Some("it can't be removed"),
-        },
+        Ok(_held) => {
+            let removed = fs::remove_file(rt, log).and_then(|()| fs::remove_file(rt, part));
+            removed.err().map(|_| "it can't be removed")
+        }
         Err(OpenError::Busy) => Some(IN_USE),
         Err(_) => Some(TAKEN),
     }

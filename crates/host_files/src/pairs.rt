@@ -55,10 +55,8 @@ pub fn write_scratch(
     is_mended: bool,
 ) -> Result<(), ScratchFault> {
     let host = LocalHost::new(rt);
-    let log = match host.real(source) {
-        Ok(real) => name_with(rt.alloc(), &real, "-wal")?,
-        Err(kind) => return Err(source_fault(kind)),
-    };
+    let real = host.real(source).map_err(source_fault)?;
+    let log = name_with(rt.alloc(), &real, "-wal")?;
     let is_alone = is_missing(&host, &log);
     match sqlite_std_file::open(rt, source, Unknown) {
         Ok(_held) => {
@@ -92,15 +90,9 @@ fn is_empty<F: HostFiles>(files: &F, path: &str) -> bool
 fn write_mended(rt: &HostRuntime, source: &str, scratch: &str) -> Result<(), ScratchFault>
     ensures { IfErr result IsCopyFault }
 {
-    let mut file = match File::open(rt, source) {
-        Ok(file) => file,
-        Err(error) => return Err(source_fault(error.kind())),
-    };
+    let mut file = File::open(rt, source).map_err(|error| source_fault(error.kind()))?;
     let mut made = new_file(rt, scratch)?;
-    match copy_mended(&mut file, &mut made) {
-        Ok(()) => Ok(()),
-        Err(error) => Err(copy_fault(error.kind())),
-    }
+    copy_mended(&mut file, &mut made).map_err(|error| copy_fault(error.kind()))
 }
 
 // Copies the file `source` and its WAL `log` to the free path `scratch` and its WAL. The originals are
@@ -129,10 +121,7 @@ fn new_file(rt: &HostRuntime, path: &str) -> Result<File, ScratchFault>
         .create_new(true)
         .mode(OWNER_ALONE)
         .open(rt, path);
-    match made {
-        Ok(file) => Ok(file),
-        Err(error) => Err(made_fault(error.kind())),
-    }
+    made.map_err(|error| made_fault(error.kind()))
 }
 
 // Why the scratch copy can't be made, by the kind of the error of making its file.

@@ -77,14 +77,7 @@ pub fn paths_at<'r>(
     ensures unheld { IfOk result (λ paths. IsUnheldAt (unwrap_or (file_of database.entry.now) []) paths) }
     ensures fault { IfErr result (λ f. f ≡ Memory) }
 {
-    paths_beside(rt, database.path().unwrap_or(""))
-}
-
-// The paths of the database file at the path `file` and of its WAL. No file is noted as open yet.
-fn paths_beside<'r>(rt: &'r HostRuntime, file: &'r str) -> Result<LocalOpenPaths<'r>, ErrorCode>
-    ensures unheld { IfOk result (λ paths. IsUnheldAt file.entry.now paths) }
-    ensures fault { IfErr result (λ f. f ≡ Memory) }
-{
+    let file = database.path().unwrap_or("");
     Ok(LocalOpenPaths {
         rt,
         file,
@@ -165,18 +158,12 @@ pub(crate) fn is_at<F: HostFiles>(files: &F, path: &str, held: Option<Identity>)
 fn identity_at<F: HostFiles>(files: &F, path: &str) -> Option<Identity>
     ensures { IfSome (F.answers files.now) (λ it. result ≡ spec.identity_at it path.now) }
 {
-    match files.find(path) {
-        Ok(found) => Some(found.identity),
-        Err(_) => None,
-    }
+    files.find(path).ok().map(|found| found.identity)
 }
 
 // Whether two identities are those of the same file.
 fn is_same(one: Identity, other: Identity) -> bool
     ensures { result ≡ left.is_same one other }
 {
-    if one.device != other.device {
-        return false;
-    }
-    one.inode == other.inode
+    one.device == other.device && one.inode == other.inode
 }

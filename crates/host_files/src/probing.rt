@@ -60,10 +60,7 @@ fn probe_start<F: HostFiles>(files: &mut F, path: &str) -> Result<Start, Denial>
 fn open_error<R>(opened: &Result<R, ErrorKind>) -> Option<ErrorKind>
     ensures { result ≡ error_of opened.now }
 {
-    match opened {
-        Ok(_) => None,
-        Err(kind) => Some(*kind),
-    }
+    opened.as_ref().err().copied()
 }
 
 // Why a file can't be opened; `None` if it can, or if memory ran out. Opening it for reading was tried
@@ -94,8 +91,6 @@ fn first_bytes<R: Read + Drop>(opened: Result<R, ErrorKind>) -> Result<[u8; 16],
 {
     let mut file = opened?;
     let mut first = [0u8; 16];
-    match file.read_exact(&mut first) {
-        Ok(()) => Ok(first),
-        Err(error) => Err(error.kind()),
-    }
+    file.read_exact(&mut first).map_err(|error| error.kind())?;
+    Ok(first)
 }

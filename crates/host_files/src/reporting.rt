@@ -5,7 +5,6 @@ ghost use Rattle.desk_program.specs.Keeping.{bytes_written};
 ghost use Rattle.host_files.specs.Naming as spec;
 ghost use Rattle.host_files.specs.Naming.{IsWrittenIfRoom, IsWrittenUpTo, Reports};
 
-use desk_cli::find_malformed_argument;
 use io_ends::{WriteError, write_whole};
 use std::alloc::{AllocError, Global};
 use std::io::Write;
@@ -44,21 +43,7 @@ pub fn report_line<E: Write>(line: &str, errors: &mut E) -> Option<WriteError<E>
     ensures cut { IsWrittenUpTo line.now result (bytes_written E.Write errors.old errors.new) }
     ensures line { IsWrittenIfRoom line.now (bytes_written E.Write errors.old errors.new) }
 {
-    match write_whole(errors, line.as_bytes()) {
-        Ok(()) => None,
-        Err(cut) => Some(cut),
-    }
-}
-
-/// Reports which of the arguments `words` is malformed, as `uss_desk: ARGUMENT: CAUSE`, if one is. A failed
-/// write and running out of memory are ignored.
-#[tactic(auto, using(crate::proofs::lemmas::Reporting::reports_nothing))]
-pub fn report_malformed_argument<E: Write>(alloc: Global, words: &[String], errors: &mut E)
-    ensures { Reports (bytes_written E.Write errors.old errors.new) }
-{
-    if let Some((word, cause)) = find_malformed_argument(alloc, words) {
-        report_text(alloc, word, cause, errors);
-    }
+    write_whole(errors, line.as_bytes()).err()
 }
 
 /// Reports that a database has no operator: the one in the file at `path`, or the one in memory if that is

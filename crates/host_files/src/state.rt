@@ -117,14 +117,11 @@ fn missing_by(kind: ErrorKind) -> Missing
 pub fn place_of(found: Result<Found, ErrorKind>) -> Place
     ensures { result ≡ spec.place_of found }
 {
-    let found = match found {
-        Ok(found) => found,
-        Err(kind) => return Place::Nothing(missing_by(kind)),
-    };
-    match found.len {
-        _ if !found.is_file => Place::NotRegular,
-        0 => Place::Empty,
-        _ => Place::Filled,
+    match found {
+        Err(kind) => Place::Nothing(missing_by(kind)),
+        Ok(found) if !found.is_file => Place::NotRegular,
+        Ok(found) if found.len == 0 => Place::Empty,
+        Ok(_) => Place::Filled,
     }
 }
 
