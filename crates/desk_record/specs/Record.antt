@@ -3,8 +3,10 @@ use Rattle.std.specs.Prelude.{◌<◌, ◌^◌, ℕ, zero, suc, ◌+◌, ◌/◌
 use Rattle.std.specs.{List.concat, Char.is_ascii_digit, Str.bytes_eq}
 use Rattle.sha2.specs.Sha256.{sha256}
 use Rattle.hex.specs.Hex.{encode_lower}
-use Rattle.desk_record.specs.declared.{kind.Kind.Kind, line.Line.Line, entry.Entry.Entry, reading.ReadFault.ReadFault, reading.ReadFault.TheVariants.Read, reading.ReadFault.TheVariants.OutOfMemory, reading.ReadFault.TheVariants.CutShort, reading.ReadFault.TheVariants.NoRecord}
+use Rattle.desk_record.specs.declared.{kind.Kind.Kind, line.Line.Line, entry.Entry.Entry, reading.ReadFault.ReadFault, reading.ReadFault.TheVariants.Unread, reading.ReadFault.TheVariants.OutOfMemory, reading.ReadFault.TheVariants.CutShort, reading.ReadFault.TheVariants.NoRecord}
 use Rattle.desk_record.specs.declared.kind.Kind.TheVariants as kind
+use Rattle.io_ends.specs.declared.chunks.ChunkError.{ChunkError}
+use Rattle.io_ends.specs.declared.chunks.ChunkError.TheVariants as chunk_error
 
 -- ==== The journal of a desk, as bytes (docs/journal-format.md): entries one after the other, each a line,
 -- the bytes that the line counts, and a line feed
@@ -153,17 +155,15 @@ abbrev pub are_bytes_intact : LineParts → List ℕ → List ℕ → Bool
 are_bytes_intact line bytes last =
     (length bytes == line.size) && (bytes_eq (sum bytes) line.sum && bytes_eq last (10 ∷ []))
 
--- the fault isn't in the bytes: a read failed, or memory ran out
-abbrev pub IsReadFailure : ReadFault → Type 0
-IsReadFailure Read = ⊤
-IsReadFailure OutOfMemory = ⊤
-IsReadFailure CutShort = ⊥
-IsReadFailure NoRecord = ⊥
+-- the fault if bytes were not read
+abbrev pub chunk_fault : {R : Type 0} → ChunkError R → ReadFault R
+chunk_fault (chunk_error.Read error) = Unread error
+chunk_fault chunk_error.OutOfMemory = OutOfMemory
 
 -- why no entry was read from the bytes that were left: a read failed or memory ran out, whatever they were;
 -- or they are too short, or damaged
-abbrev pub LacksEntry : Option (List ℕ) → ReadFault → Type 0
-LacksEntry left Read = ⊤
+abbrev pub LacksEntry : {R : Type 0} → Option (List ℕ) → ReadFault R → Type 0
+LacksEntry left (Unread error) = ⊤
 LacksEntry left OutOfMemory = ⊤
 LacksEntry left CutShort = IfSome left IsTooShort
 LacksEntry left NoRecord = IfSome left IsDamagedRecord

@@ -1,27 +1,24 @@
 //! Entries read from a stream.
 
-ghost use Rattle.std.specs.Prelude.{◌≡◌, ◌≤◌, ◌<◌, None, length, IfErr, IfOk, IfSome};
+ghost use Rattle.std.specs.Prelude.{◌≡◌, None, IfErr, IfOk, IfSome};
 ghost use Rattle.std.specs.{Io.KnownBytes.Consumes, Io.KnownBytes.IsAtEnd};
-ghost use Rattle.desk_record.specs.Record.{Fits, entry, line_parts, IsReadFailure, LacksEntry, entry_parts, are_bytes_intact};
+ghost use Rattle.desk_record.specs.Record.{Fits, entry, line_parts, LacksEntry, entry_parts, are_bytes_intact};
 
 use crate::entry::Entry;
 use crate::line::{LINE_LEN, Line, read_line};
 use crate::sums::checksum;
-use io_ends::{ReadError, Reads, read_within};
+use io_ends::{ChunkError, ReadError, ReadLimit, read_up_to};
 use std::alloc::{AllocError, Global};
 use std::io::Read;
 
-/// At most how many bytes one read asks for.
-const CHUNK: usize = 4_096;
-
-/// The most calls of `read` for one chunk; interrupted ones are made again.
+// The maximum number of calls of `read` for one chunk. Only interrupted calls are made again.
 const MAX_TRIES: u32 = 1_000_000;
 
-/// Why no entry was read.
-#[derive(Clone, Copy, Debug, PartialEq, Eq)]
-pub enum ReadFault {
-    /// A read failed.
-    Read,
+/// Why no entry was read from an `R`.
+#[derive_where(Clone, Copy, Debug, PartialEq, Eq)]
+pub enum ReadFault<R> {
+    /// A read failed, or a chunk was interrupted a million times.
+    Unread(ReadError<R>),
     /// Memory ran out.
     OutOfMemory,
     /// The input ended inside an entry.
@@ -30,26 +27,30 @@ pub enum ReadFault {
     NoRecord,
 }
 
-impl From<AllocError> for ReadFault {
+impl<R> From<AllocError> for ReadFault<R> {
     ghost use Rattle.std.specs.Prelude.{◌≡◌};
     ghost use Rattle.desk_record.specs.declared.reading.ReadFault.TheVariants as read_fault;
 
     ghost from_gives = { λ _ fault. fault ≡ read_fault.OutOfMemory };
 
-    fn from(_: AllocError) -> ReadFault {
+    // An allocation failed, so memory ran out.
+    fn from(_error: AllocError) -> ReadFault<R> {
         ReadFault::OutOfMemory
     }
 }
 
-impl<R> From<ReadError<R>> for ReadFault {
+impl<R> From<ChunkError<R>> for ReadFault<R> {
     ghost use Rattle.std.specs.Prelude.{◌≡◌};
-    ghost use Rattle.desk_record.specs.declared.reading.ReadFault.TheVariants as read_fault;
+    ghost use Rattle.desk_record.specs.Record.{chunk_fault};
 
-    ghost from_gives = { λ _ fault. fault ≡ read_fault.Read };
+    ghost from_gives = { λ error fault. fault ≡ chunk_fault error };
 
-    // A read failed, or was interrupted a million times.
-    fn from(_error: ReadError<R>) -> ReadFault {
-        ReadFault::Read
+    // A read failed or was interrupted 1,000,000 times, or memory ran out.
+    fn from(error: ChunkError<R>) -> ReadFault<R> {
+        match error {
+            ChunkError::Read(error) => ReadFault::Unread(error),
+            ChunkError::OutOfMemory => ReadFault::OutOfMemory,
+        }
     }
 }
 
@@ -60,14 +61,15 @@ impl<R> From<ReadError<R>> for ReadFault {
 ///
 /// As `ReadFault` says. `CutShort` and `NoRecord` depend on the bytes of the input alone. How much of the
 /// input was read then isn't specified.
-pub fn read_entry<R: Read>(alloc: Global, input: &mut R) -> Result<Option<Entry>, ReadFault>
+pub fn read_entry<R: Read>(alloc: Global, input: &mut R) -> Result<Option<Entry>, ReadFault<R>>
     ensures entry { IfOk result (λ found. IfSome found (λ e.
         Consumes (R.remaining input.old) (R.remaining input.new) (entry (entry_parts e)))) }
     ensures fits { IfOk result (λ found. IfSome found (λ e. Fits (entry_parts e))) }
     ensures end { IfOk result (λ found. found ≡ None → IsAtEnd (R.remaining input.old)) }
     ensures fault { IfErr result (LacksEntry (R.remaining input.old)) }
 {
-    let text = read_up_to(alloc, input, LINE_LEN as u64)?;
+    let mut limit = ReadLimit::per_chunk(MAX_TRIES);
+    let text = read_up_to(alloc, input, LINE_LEN as u64, &mut limit)?;
     if text.is_empty() {
         return Ok(None);
     }
@@ -77,8 +79,8 @@ pub fn read_entry<R: Read>(alloc: Global, input: &mut R) -> Result<Option<Entry>
     let Some(line) = read_line(alloc, &text)? else {
         return Err(ReadFault::NoRecord);
     };
-    let bytes = read_up_to(alloc, input, line.size)?;
-    let last = read_up_to(alloc, input, 1)?;
+    let bytes = read_up_to(alloc, input, line.size, &mut limit)?;
+    let last = read_up_to(alloc, input, 1, &mut limit)?;
     if last.is_empty() {
         return Err(ReadFault::CutShort);
     }
@@ -101,31 +103,4 @@ fn is_intact(alloc: Global, line: &Line, bytes: &[u8], last: &[u8]) -> Result<bo
 {
     let sum = checksum(alloc, bytes)?;
     Ok(bytes.len() as u64 == line.size && sum == line.sum && last == b"\n".as_slice())
-}
-
-// Reads `size` bytes, or fewer if the input ends before that. A failed read or running out of memory is the
-// only error. Each round reads at least one byte, so `size` rounds are enough.
-fn read_up_to<R: Read>(alloc: Global, input: &mut R, size: u64) -> Result<Vec<u8>, ReadFault>
-    ensures taken { IfOk result (λ text.
-        Consumes (R.remaining input.old) (R.remaining input.new) text.items) }
-    ensures within { IfOk result (λ text. length text.items ≤ size) }
-    ensures end { IfOk result (λ text. length text.items < size → IsAtEnd (R.remaining input.new)) }
-    ensures fault { IfErr result IsReadFailure }
-{
-    let mut text = Vec::new(alloc);
-    let mut chunk = [0u8; CHUNK];
-    let mut left = size;
-    for _ in 0..size {
-        if left == 0 {
-            return Ok(text);
-        }
-        let room = left.min(CHUNK as u64) as usize;
-        let count = read_within(input, &mut chunk[..room], MAX_TRIES, &mut Reads::none())?;
-        if count == 0 {
-            return Ok(text);
-        }
-        text.extend_from_slice(&chunk[..count])?;
-        left -= count as u64;
-    }
-    Ok(text)
 }

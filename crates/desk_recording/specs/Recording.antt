@@ -5,14 +5,7 @@ use Rattle.io_ends.specs.{Writing.BreaksOff, declared.writing.WriteError.WriteEr
 use Rattle.desk_wire.specs.{Streams.IsTaken, Streams.IsCut, Streams.Course, Streams.course, Bytes.server_error_text, declared.response.ServerError.TheVariants.Store}
 use Rattle.desk_cli.specs.declared.line.Enrolment.{Enrolment}
 use Rattle.desk_program.specs.{Enrolling.Noted, Enrolling.Recorded, Serving.Arrival, Serving.Closes, Serving.Parting, Serving.TakesArrival, Serving.Traffic, Serving.arrived, Serving.parted, Serving.unreported}
-use Rattle.desk_recording.specs.declared.{receiving.ReceiveFault.ReceiveFault, receiving.ReceiveFault.TheVariants.CutShort, receiving.ReceiveFault.TheVariants.Unread, receiving.ReceiveFault.TheVariants.OutOfMemory, record.Exchange.Exchange}
-
--- why no whole request came: the client's bytes end inside it (`cut` says so); or a read failed or memory ran
--- out, of which nothing is said
-abbrev pub IsStoppedBy : {R : Type 0} → Type 0 → ReceiveFault R → Type 0
-IsStoppedBy cut CutShort = cut
-IsStoppedBy cut (Unread unread) = ⊤
-IsStoppedBy cut OutOfMemory = ⊤
+use Rattle.desk_recording.specs.declared.record.Exchange.{Exchange}
 
 -- a client sent no whole request: its bytes (sent) had ended, or end inside one; or a read failed
 abbrev pub SentNone : Bool → Option (List ℕ) → Type 0

@@ -1,4 +1,6 @@
-//! The first entries of a journal file.
+//! The first entries of a journal file. The terms of a desk are its settings: which priorities are permitted
+//! (plans of equal priority may overlap there), and the limits on the spans and the cells of an operator's
+//! plans.
 
 ghost use Rattle.std.specs.Prelude.{◌≡◌, ◌++◌, map, option_to_list, IfOk, OnErr, OnOk};
 ghost use Rattle.desk_record.specs.Record.{entries};
@@ -16,12 +18,13 @@ use std::alloc::{AllocError, Global};
 /// The version of the journal format, as the first entry has it.
 const VERSION: &[u8] = b"1";
 
-/// Writes the first entries of the journal file `number` of its folder: the version, the settings of the desk
-/// (`terms`) and its `operators`. They are flushed to the disk.
+/// Writes the first entries of the journal file `number` of its folder: the version of the format, the
+/// settings of the desk (`terms`), and the enrolment of each of `operators`. They are flushed to the disk.
 ///
 /// # Errors
 ///
-/// As `AppendError` says. A part of the entries may be in the file then.
+/// `OutOfMemory` if memory runs out: nothing is written. `Journal` if the file fails: a part of the entries
+/// may be in it.
 pub fn write_header<J: Journal>(
     alloc: Global,
     journal: &mut J,
@@ -39,7 +42,8 @@ pub fn write_header<J: Journal>(
     sync_to(journal)
 }
 
-// The text of these first entries. Fails if memory runs out.
+// The text of the first entries of a journal file, as `write_header` writes them. An error if memory runs
+// out.
 fn header_text(
     alloc: Global,
     number: u64,
@@ -57,8 +61,8 @@ fn header_text(
     Ok(text)
 }
 
-// Appends an entry to `text` for each `permitted` priority (0 to 1,000), in ascending order. If memory runs
-// out, some of them may be appended.
+// Appends an entry to `text` for each `permitted` priority (0 to 1,000), in ascending order. An error if
+// memory runs out: some of them may be appended.
 fn write_permitted(text: &mut Vec<u8>, permitted: &Permitted) -> Result<(), AllocError>
     ensures { OnOk result (text.new.items ≡ text.old.items
         ++ entries (permitted_below 1001 permitted.now)) }
@@ -69,7 +73,8 @@ fn write_permitted(text: &mut Vec<u8>, permitted: &Permitted) -> Result<(), Allo
     Ok(())
 }
 
-// Appends an entry for `priority` to `text` if that is among the `permitted` ones; else nothing.
+// Appends an entry for `priority` to `text` if that is among the `permitted` ones; else nothing. An error if
+// memory runs out.
 fn write_if_permitted(
     text: &mut Vec<u8>,
     permitted: &Permitted,
@@ -85,7 +90,8 @@ fn write_if_permitted(
     }
 }
 
-// Appends an entry of this `kind` (`Spans` or `Cells`) to `text` for the `limit`, if there is one.
+// Appends an entry of this `kind` (`Spans` or `Cells`) to `text` for the `limit`, if there is one. An error
+// if memory runs out.
 fn write_limit(text: &mut Vec<u8>, kind: Kind, limit: Option<u32>) -> Result<(), AllocError>
     ensures { OnOk result (text.new.items ≡ text.old.items
         ++ entries (map (limit_entry kind) (option_to_list limit))) }
@@ -96,8 +102,9 @@ fn write_limit(text: &mut Vec<u8>, kind: Kind, limit: Option<u32>) -> Result<(),
     }
 }
 
-/// Appends an entry for each operator to `text`, in their order: its ceiling, and its name as the bytes. That
-/// each name is valid (`named`) is so of any `Enrolment`.
+/// Appends an entry for each operator to `text`, in their order: its ceiling (the greatest priority that it
+/// may use) as the number, its name as the bytes. The clause `named` says that each name is valid, as that of
+/// any `Enrolment` is.
 ///
 /// # Errors
 ///

@@ -11,13 +11,13 @@ ghost use Rattle.desk_recording.specs.Inputs as spec;
 ghost use Rattle.desk_recording.specs.Inputs.{EndsInput, HandsOutNone, IsUnrecorded, PlaysRecorded, input_outside};
 
 use crate::port::RecordedPort;
-use crate::receiving::{ReceiveError, ReceiveFault, receive};
 use crate::record::Record;
 use desk_cli::{Enrolment, ErrorCode, ExitReport, PlayArgs, report_exit};
 use desk_program::{ClientStream, ExchangeEnd, Port, play_port};
 use desk_run::Desk;
 use desk_store::PlanStore;
-use io_ends::{Moment, WriteError, write_whole};
+use desk_wire::{ReceiveFault, receive_request};
+use io_ends::{Moment, ReadError, WriteError, write_whole};
 use std::alloc::Global;
 use std::io::{Cursor, Read, Write};
 
@@ -29,7 +29,7 @@ pub(crate) enum InputEnd<R, W> {
     /// The input ends inside a request.
     CutShort,
     /// A read of the input failed.
-    Unread(ReceiveError<R>),
+    Unread(ReadError<R>),
     /// Memory ran out.
     OutOfMemory,
     /// It isn't known where the next request begins: the desk didn't read the last one to its end.
@@ -39,7 +39,7 @@ pub(crate) enum InputEnd<R, W> {
 }
 
 impl<R, W> InputEnd<R, W> {
-    // The result of the command `play` when its input ends so.
+    // The result of the command `play` if this is why it reads no more requests.
     fn exit_result(self) -> Result<(), ErrorCode>
         ensures { result ≡ spec.exit_of_input_end self }
     {
@@ -68,7 +68,8 @@ pub struct InputPort<R: Drop, W: Drop> {
 }
 
 impl<R: Read + Drop, W: Write + Drop> InputPort<R, W> {
-    /// A port over `input` and `output`, from which no request was taken yet. All are decided at `moment`.
+    /// A port from which no request was taken yet. It takes the requests from `input` and writes their
+    /// answers to `output`. The desk decides all of them at `moment`.
     pub fn new(input: R, output: W, moment: Moment) -> InputPort<R, W>
         ensures input { result.input ≡ input }
         ensures output { result.output ≡ output }
@@ -85,10 +86,10 @@ impl<R: Read + Drop, W: Write + Drop> InputPort<R, W> {
         }
     }
 
-    // The result of `play`, where `done` is the result of serving the port. If the input has ended or the
-    // output failed (`ended`), that decides: `Ok` at the end of the input. Else the error of `done` does.
-    // Else as many requests were answered as one command answers: `Unframed` if the last one wasn't read to
-    // its end, or `Limit`.
+    // The result of `play`, by the result of serving the port (`done`). If no more requests are read
+    // (`ended`), that decides: `Ok` at the end of the input. Else the error of `done` does. Else as many
+    // requests were answered as one command answers: `Unframed` if it isn't known where the next one begins,
+    // or `Limit`.
     fn final_result(&self, done: Result<(), ErrorCode>) -> Result<(), ErrorCode>
         ensures { result
             ≡ spec.exit_of_play (option_map spec.exit_of_input_end self.now.ended) self.now.is_unframed done }
@@ -130,8 +131,8 @@ impl<R: Read + Drop, W: Write + Drop> Port for InputPort<R, W> {
         Ok(Vec::new(alloc))
     }
 
-    // Reads the next request of the input. If there is none, the error is `Network`, and `ended` says why:
-    // from then on nothing more is read.
+    // Reads the next request of the input, as a connection with an empty answer. If there is none, the error
+    // is `Network`, and `ended` says why: from then on nothing more is read.
     // Long: what a port reports, which request of the input is taken, and when the input has ended.
     fn take(&mut self, alloc: Global) -> Result<ClientStream<Cursor<Vec<u8>>, Vec<u8>>, ErrorCode>
         ensures taken { IfOk result (λ c. TakesArrival unreported unreported
@@ -166,8 +167,8 @@ impl<R: Read + Drop, W: Write + Drop> Port for InputPort<R, W> {
     }
 
     // Writes the answer (`output`) to the port's output, and notes whether it is known where the next request
-    // begins: it is if the last one was read whole (`outcome`). A failed write isn't an error here: it is
-    // noted in `ended`, and no more requests are read.
+    // begins: it is if the request was read whole, as `outcome` says. A failed write isn't an error here: it
+    // is noted in `ended`, and no more requests are read.
     fn close(
         &mut self,
         input: Cursor<Vec<u8>>,
@@ -193,8 +194,8 @@ impl<R: Read + Drop, W: Write + Drop> Port for InputPort<R, W> {
     }
 }
 
-// Reads the next request, or returns why there is none. If `is_unframed`, it isn't known where that begins,
-// and nothing is read.
+// Reads the next request of `input`. The error says why there is none. If `is_unframed`, it isn't known where
+// the next one begins, and nothing is read.
 fn next_request<R: Read, W>(
     alloc: Global,
     is_unframed: bool,
@@ -207,7 +208,7 @@ fn next_request<R: Read, W>(
     if is_unframed {
         return Err(InputEnd::Unframed);
     }
-    match receive(alloc, input) {
+    match receive_request(alloc, input) {
         Ok(request) if request.is_empty() => Err(InputEnd::AtEnd),
         Ok(request) => Ok(request),
         Err(ReceiveFault::CutShort) => Err(InputEnd::CutShort),
@@ -248,8 +249,8 @@ where
     }
 }
 
-// Carries out `play` with a journal at an open desk. An error code goes to `errors`; a failed write there is
-// ignored.
+// Carries out `play` at an open desk, with the requests and the journal of `port`, and returns the exit
+// report. An error code goes to `errors`; a failed write there is ignored.
 fn play_recorded<S: PlanStore, R: Read + Drop, W: Write + Drop, K: Record + Drop, E: Write>(
     alloc: Global,
     play: &PlayArgs,

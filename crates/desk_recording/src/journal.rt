@@ -46,6 +46,7 @@ impl<F> From<AllocError> for AppendError<F> {
 
     ghost from_gives = { λ _ fault. fault ≡ unwritten.OutOfMemory };
 
+    // A failed allocation means that memory ran out.
     fn from(_error: AllocError) -> AppendError<F> {
         AppendError::OutOfMemory
     }

@@ -1,5 +1,9 @@
 //! The request journal: a port that writes each request before it is carried out, and each answer before it
 //! is sent; and the recovery from a journal at the next start.
+//!
+//! A port gives the desk one connection after the other. A journal is a folder of append-only files. A file
+//! has entries: its header and the desk's settings, then enrolments, requests and answers as they come. Each
+//! start begins a new file.
 #![tactic(auto)]
 
 mod header;
@@ -7,7 +11,6 @@ mod inputs;
 mod journal;
 pub mod laws;
 mod port;
-mod receiving;
 mod record;
 mod recovering;
 mod streams;

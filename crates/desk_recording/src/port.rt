@@ -1,4 +1,5 @@
-//! A port whose connections are recorded.
+//! A port whose connections are recorded. It is made of a port below, which gives one connection after the
+//! other, and a journal.
 
 ghost use Rattle.std.specs.Prelude.{◌≡◌, ◌⊎◌, false, true, Err, None, Some, IfErr, IfOk, IsSome, OnErr, OnOk};
 ghost use Rattle.std.specs.{Option.IsNone, Option.is_none, Option.is_some, Result.is_ok, Io.Cursor.cursor_inner, Io.Cursor.cursor_remaining};
@@ -11,13 +12,12 @@ ghost use Rattle.desk_recording.specs.Recording.{AddsIf, AddsStep, Answered, IsC
 ghost use Rattle.desk_recording.specs.Inputs as spec;
 ghost use Rattle.desk_recording.specs.Inputs.{parted_in, reported_of};
 
-use crate::receiving::{ReceiveError, ReceiveFault, receive};
 use crate::record::{Exchange, Record, RecordFault};
 use crate::streams::{BufferedRequest, BufferedResponse};
 use desk_cli::{Enrolment, ErrorCode};
 use desk_program::{ClientStream, ExchangeEnd, Port};
-use desk_wire::ServerError;
-use io_ends::{WriteError, write_whole};
+use desk_wire::{ReceiveFault, ServerError, receive_request};
+use io_ends::{ReadError, WriteError, write_whole};
 use std::alloc::{AllocError, Global};
 use std::io::{Cursor, Read, Write};
 
@@ -80,7 +80,8 @@ impl<P: Port + Drop, R: Record + Drop> Port for RecordedPort<P, R> {
     }
 
     // Takes the new enrolments of the port below, and writes them to the journal before the desk makes them.
-    // `Broken` if an entry can't be written now, or couldn't before.
+    // The error is `Broken` if that fails, or if the port accepts no more connections; else that of the port
+    // below.
     #[tactic(auto, using(crate::proofs::StepLemmas::brings_enrolments))]
     fn newly_enrolled(&mut self, alloc: Global) -> Result<Vec<Enrolment>, ErrorCode>
         ensures small { IfOk result (λ newly_enrolled. AreEnrolments newly_enrolled.items) }
@@ -111,8 +112,8 @@ impl<P: Port + Drop, R: Record + Drop> Port for RecordedPort<P, R> {
     }
 
     // Accepts a connection, reads its request, and writes that to the journal before the desk reads it. If
-    // that write fails, the client gets a 500, and the error is `Broken`. If memory runs out, the client gets
-    // nothing.
+    // that write fails, the client gets a 500, and the error is `Broken`, as it is of all later calls. If
+    // memory runs out while the request is read, the client gets nothing, and the error is `Memory`.
     // Long: what the port reports, what was read from the client, and when it is broken.
     #[tactic(auto, using(crate::proofs::StepLemmas::takes_one))]
     fn take(
@@ -170,7 +171,8 @@ impl<P: Port + Drop, R: Record + Drop> Port for RecordedPort<P, R> {
 
     // Writes the answer to the journal, sends it to the client, and closes the connection. `outcome` says
     // whether the request was read whole and answered whole. If the answer isn't whole or can't be recorded,
-    // the client gets a 500, and the error is `Broken`. A failed send is ignored.
+    // the client gets a 500, the error is `Broken`, and no more connections are accepted. A failed send is
+    // ignored.
     // Long: what the port reports, what its journal has, when it is broken, and what the client was sent.
     #[tactic(auto, using(crate::proofs::StepLemmas::closes_so, crate::proofs::StepLemmas::is_open))]
     fn close(
@@ -212,8 +214,8 @@ impl<P: Port + Drop, R: Record + Drop> Port for RecordedPort<P, R> {
     }
 }
 
-// The error of this port for an error of the port below. `Broken` is reserved for this port's own journal, so
-// it becomes `Network`.
+// The error of a recorded port for the error `failure` of the port below it. `Broken` says that the port's
+// own journal failed, so a `Broken` from below becomes `Network`.
 fn port_error(failure: ErrorCode) -> ErrorCode
     ensures { result ≡ spec.failure_below failure }
 {
@@ -223,8 +225,8 @@ fn port_error(failure: ErrorCode) -> ErrorCode
     }
 }
 
-// The result of closing a connection: `Broken` if the journal is broken (`is_lost`), else that of the port
-// below (`closed`).
+// The result of closing a connection: `Broken` if its answer isn't recorded (`is_lost`), else the result of
+// closing it at the port below (`closed`).
 fn close_result(is_lost: bool, closed: Result<(), ErrorCode>) -> Result<(), ErrorCode>
     ensures { result ≡ spec.closed_as is_lost closed }
 {
@@ -235,8 +237,8 @@ fn close_result(is_lost: bool, closed: Result<(), ErrorCode>) -> Result<(), Erro
 }
 
 // Appends the answer of the `connection` to the journal and then sends it to the client. If the answer isn't
-// whole, can't be appended, or the journal was broken before (`broken`), sends a 500 instead. Returns why the
-// journal is broken now, if it is, and the result of sending.
+// whole, can't be appended, or the port had stopped before (`broken` says why), sends a 500 instead. Returns
+// why the port accepts no more connections, if it doesn't, and the result of sending.
 fn record_and_send<R: Record, W: Write>(
     journal: &mut R,
     broken: Option<StopCause<R>>,
@@ -261,8 +263,8 @@ fn record_and_send<R: Record, W: Write>(
     (lost, send_store_error(client))
 }
 
-// Appends the answer of the `connection` to the journal, if it is whole and the journal wasn't broken before
-// (`broken`). Returns why the journal is broken now, if it is; `None` means that the answer is appended.
+// Appends the answer of the `connection` to the journal, if it is whole and the port hadn't stopped before
+// (`broken` says why). Returns None if it is appended; else why not, which is why the port stops.
 fn record_answer<R: Record>(
     journal: &mut R,
     broken: Option<StopCause<R>>,
@@ -292,16 +294,15 @@ fn record_answer<R: Record>(
 #[derive(Drop)]
 struct Received<R> {
     request: Vec<u8>,
-    unread: Option<ReceiveError<R>>,
+    unread: Option<ReadError<R>>,
 }
 
-// Reads the request of a client. It is empty if it doesn't come whole. Running out of memory is the only
-// error.
+// Reads the request of a client. It is empty if it doesn't come whole. An error only if memory runs out.
 fn receive_or_empty<R: Read>(alloc: Global, client: &mut R) -> Result<Received<R>, AllocError>
     ensures { IfOk result (λ received. IsReceived (is_some received.unread) (R.remaining client.old)
         (R.remaining client.new) received.request.items) }
 {
-    let (request, unread) = match receive(alloc, client) {
+    let (request, unread) = match receive_request(alloc, client) {
         Ok(request) => (request, None),
         Err(ReceiveFault::CutShort) => (Vec::new(alloc), None),
         Err(ReceiveFault::Unread(unread)) => (Vec::new(alloc), Some(unread)),
@@ -310,14 +311,15 @@ fn receive_or_empty<R: Read>(alloc: Global, client: &mut R) -> Result<Received<R
     Ok(Received { request, unread })
 }
 
-// Sends the answer 500 with the error `store`: the request or its answer can't be written to the journal.
+// Sends the answer 500 with the error `store` to a client whose request or answer can't be written to the
+// journal.
 fn send_store_error<W: Write>(client: &mut W) -> Result<(), WriteError<W>>
     ensures { Sends (server_error_text Store) (W.contents client.old) (W.contents client.new) result }
 {
     write_whole(client, ServerError::Store.answer())
 }
 
-// The bytes of `request` that weren't read.
+// The bytes of `request` behind the cursor's position, which weren't read; none if that is past the end.
 fn unread_bytes(request: &Cursor<Vec<u8>>) -> &[u8]
     ensures { Some result.now ≡ cursor_remaining (λ v. Some v.items) request.now }
 {

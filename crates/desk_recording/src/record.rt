@@ -1,4 +1,4 @@
-//! The interface of a request journal.
+//! The interface of a request journal. Its text is what has been appended so far.
 
 ghost use Rattle.std.specs.Prelude.{◌≡◌, IfSome, List, OnOk, Option, None};
 ghost use Rattle.std.specs.Result.{is_ok};
@@ -44,8 +44,8 @@ pub trait Record {
             (λ n. with_news n newly_enrolled.now) }
         ensures named { IfSome (noted self.old) (λ _. OnOk result (AreNamed newly_enrolled.now)) };
 
-    /// Appends a request (`bytes`) that is decided at `moment`, and flushes the journal to the disk. If
-    /// `bytes` is empty, no whole request came, and no entry is appended.
+    /// Appends a request (`bytes`) that the desk is to decide at `moment`, and flushes the journal to the
+    /// disk. If `bytes` is empty, no whole request came, and no entry is appended.
     ///
     /// # Errors
     ///
@@ -57,7 +57,7 @@ pub trait Record {
             (λ n. with_request n moment.second bytes.now) };
 
     /// Appends the answer to the last request, `connection.sent`, without flushing it. It is flushed with the
-    /// next request; if it is lost before, the recovery makes it again.
+    /// next request; if a crash loses it before, the next start answers the request again.
     ///
     /// # Errors
     ///
@@ -81,7 +81,7 @@ pub struct RecordFault<R> {
 }
 
 impl<R: Record> RecordFault<R> {
-    /// The fault, made from an error of the journal.
+    /// The fault, made from an error of the journal, which is dropped.
     pub(crate) fn by(_fault: R::Fault) -> RecordFault<R> {
         RecordFault {
             record: PhantomData,

@@ -1,4 +1,5 @@
-//! Recovery at a start: what the last journal file left pending is done at the desk.
+//! Recovery at a start: what the last journal file left pending is done at the desk. That is a request
+//! without an answer, and operators that were to be enrolled.
 
 ghost use Rattle.std.specs.Prelude.{◌≡◌, ◌≤◌, ◌⊎◌, IsTrue, IfErr, IfOk, OnOk};
 ghost use Rattle.desk_rules.specs.Limits.{max_priority};
@@ -44,6 +45,7 @@ impl<R> From<RecoveryError<R>> for ErrorCode {
 
     ghost from_gives = { λ why failure. failure ≡ failure_of why };
 
+    // The error code of a command whose recovery failed with `why`.
     fn from(why: RecoveryError<R>) -> ErrorCode {
         match why {
             RecoveryError::OutOfMemory => ErrorCode::Memory,
@@ -55,7 +57,7 @@ impl<R> From<RecoveryError<R>> for ErrorCode {
 }
 
 /// Those of `enrolments`, in their order, whose operators aren't enrolled yet; `roll` lists the enrolled
-/// ones. An enrolment with a ceiling above 1,000 is left out.
+/// ones, whatever their ceilings. An enrolment with a ceiling above 1,000 is left out.
 ///
 /// # Errors
 ///
@@ -93,9 +95,9 @@ fn is_enrolled(roll: &[Enrolment], operator: &Operator) -> bool
     roll.iter().any(|enrolment| enrolment.operator == *operator)
 }
 
-/// Sets the `terms` of the last journal at the desk, enrols the operators that are `missing` there, and
-/// repeats the request `asked`, which has no answer in that journal, at its own second. The request is
-/// written to the new `journal` before it is carried out, and its answer after that.
+/// Sets the `terms` (the settings) of the last journal file at the desk, enrols the operators that are
+/// `missing` there, and repeats the request `asked`, if that file has one without an answer, at its own
+/// second. The request is written to the new `journal` before it is carried out, and its answer after that.
 ///
 /// # Errors
 ///
@@ -127,7 +129,7 @@ pub fn recover<S: PlanStore, R: Record>(
 }
 
 // The error of a recovery at which enrolling an operator failed with `fault`: memory ran out, or the store
-// failed.
+// failed. A recovery's enrolments fail for no other reason.
 fn enrolment_error<R>(fault: DeskFault) -> RecoveryError<R>
     ensures failure { IsBreakdown fault → spec.failure_of result ≡ enrolment_failure fault }
     ensures cause { IsBreakdown fault → spec.failure_of result ≡ ErrorCode.Store → fault ≡ DeskFault.Store }
@@ -138,7 +140,7 @@ fn enrolment_error<R>(fault: DeskFault) -> RecoveryError<R>
     }
 }
 
-// Repeats the request `asked` that has no answer, if there is one, as `redo_request` does.
+// Repeats the request `asked`, if there is one, as `redo_request` does.
 fn redo_if_pending<S: PlanStore, R: Record>(
     alloc: Global,
     desk: &mut Desk<S>,
@@ -159,9 +161,10 @@ fn redo_if_pending<S: PlanStore, R: Record>(
     }
 }
 
-// Repeats the request `asked` at its own second. It is written to `journal` before, and its answer after
-// that. If the desk fails, the journal notes that the answer is lost. If the second is out of range, nothing
-// is done.
+// Carries out the request `asked`, which has no answer, at its own second. It is written to `journal` before,
+// and its answer after that. If the second is out of range (`Clock`) or the request can't be written
+// (`JournalError`), it isn't carried out. If the desk fails or the answer can't be written, `journal` notes
+// that the answer is lost.
 #[tactic(auto, using(crate::proofs::RecoveringLemmas::both_added))]
 fn redo_request<S: PlanStore, R: Record>(
     alloc: Global,
@@ -197,8 +200,8 @@ fn redo_request<S: PlanStore, R: Record>(
     }
 }
 
-// Writes the answer to the repeated request to `journal`; it isn't sent to any client. If that fails, the
-// journal notes that the answer is lost.
+// Writes the answer to the repeated request to `journal`; it isn't sent to any client. `JournalError` if that
+// fails: then `journal` notes that the answer is lost.
 fn record_redone_answer<R: Record>(journal: &mut R, answer: &[u8]) -> Result<(), RecoveryError<R>>
     ensures ok { OnOk result
         (AddsStep (R.steps journal.old) (R.steps journal.new)
@@ -216,7 +219,8 @@ fn record_redone_answer<R: Record>(journal: &mut R, answer: &[u8]) -> Result<(),
     }
 }
 
-// The exchange of a repeated request, which has no client: the request was read whole and got this answer.
+// The exchange of a repeated request as the journal is told of it. It has no client; the request counts as
+// read whole and answered whole.
 fn exchange_without_client(answer: &[u8]) -> Exchange<'_>
     ensures { parting_of result ≡ spec.parting_without_client answer.now }
 {
@@ -231,7 +235,7 @@ fn exchange_without_client(answer: &[u8]) -> Exchange<'_>
 }
 
 // The error of a recovery at which repeating the request failed with `fault`: memory ran out, or the store
-// failed.
+// failed. `answer_one` fails for no other reason.
 fn replay_error<R>(fault: ReplayFault) -> RecoveryError<R>
     ensures memory_or_store { (spec.failure_of result ≡ ErrorCode.Memory)
         ⊎ (spec.failure_of result ≡ ErrorCode.Store) }

@@ -1,4 +1,6 @@
-//! The end of a journal file: what a recovery has to do.
+//! The end of a journal file: what a recovery has to do after a crash. The functions `apply_..` note in the
+//! `Tail` what one entry says; after an error the `Tail` isn't used any more. `OutOfMemory` says that memory
+//! ran out.
 
 ghost use Rattle.std.specs.Prelude.{◌≡◌, IfErr, IfOk};
 ghost use Rattle.std.specs.Io.KnownBytes.{Consumes};
@@ -77,13 +79,14 @@ impl From<AllocError> for TailFault {
 
     ghost from_gives = { λ _ fault. fault ≡ tail_fault.OutOfMemory };
 
+    // A failed allocation means that memory ran out.
     fn from(_error: AllocError) -> TailFault {
         TailFault::OutOfMemory
     }
 }
 
 impl Tail {
-    // What no entries say: the state before the first entry.
+    // The tail before the first entry is applied: nothing is said yet.
     fn empty(alloc: Global) -> Tail
         ensures { tail_shown result ≡ empty_tail }
     {
@@ -98,12 +101,12 @@ impl Tail {
     }
 }
 
-/// Reads a journal file up to its end or to the first bytes that are no whole entry. Returns what the entries
-/// say, and what follows them.
+/// Reads a journal file up to its end or to the first bytes that are no whole entry. Returns what the whole
+/// entries say, and what follows them: an entry that is cut short, or damage, is no error.
 ///
 /// # Errors
 ///
-/// As `TailFault` says.
+/// As `TailFault` says; also `Read` after `u64::MAX` entries, which no file has.
 pub fn read_tail<R: Read>(alloc: Global, input: &mut R) -> Result<(Tail, TailEnd), TailFault>
     ensures ok { IfOk result (λ read. IsTail (R.remaining input.old) read.1 (tail_shown read.0)) }
     ensures err { IfErr result (HasNoTail (R.remaining input.old)) }
@@ -119,8 +122,9 @@ pub fn read_tail<R: Read>(alloc: Global, input: &mut R) -> Result<(Tail, TailEnd
     Err(TailFault::Read)
 }
 
-// Reads the next entry and applies it to `tail`. Returns `None` then. If there is no whole entry, returns
-// what follows instead, and `tail` is unchanged.
+// Reads the next entry and applies it to `tail`; returns None then. If there is no whole entry, returns what
+// is there instead, and `tail` is unchanged. `NoRecord` if no desk writes such an entry there, `Read` if a
+// read fails.
 fn read_next_entry<R: Read>(
     alloc: Global,
     input: &mut R,
@@ -138,12 +142,13 @@ fn read_next_entry<R: Read>(
         Err(ReadFault::CutShort) => Ok(Some(TailEnd::Short)),
         Err(ReadFault::NoRecord) => Ok(Some(TailEnd::Damaged)),
         Err(ReadFault::OutOfMemory) => Err(TailFault::OutOfMemory),
-        Err(ReadFault::Read) => Err(TailFault::Read),
+        Err(ReadFault::Unread(_)) => Err(TailFault::Read),
     }
 }
 
-// Applies an entry to `tail` and adds its length to `tail.size`. The first entry has to be the header, of the
-// kind `Record`; else the error is `NoRecord`.
+// Applies an entry to `tail` and adds its length to `tail.size`. `NoRecord` if no desk writes such an entry
+// there: for example, the first one has to be the header, of the kind `Record`. `lengths` does nothing: its
+// contract says how long an entry is.
 #[tactic(auto, unfolding(crate::specs::Tail::tail_with))]
 fn apply_entry(tail: &mut Tail, entry: Entry) -> Result<(), TailFault>
     ensures { Notes result (tail_with (tail_shown tail.old) (entry_parts entry)) (tail_shown tail.new) }
@@ -161,17 +166,18 @@ fn apply_entry(tail: &mut Tail, entry: Entry) -> Result<(), TailFault>
     apply_by_kind(tail, kind, number, bytes)
 }
 
-// Applies an entry to `tail`, by its kind. `NoRecord` if no desk writes such an entry here; for example,
-// entries of the kinds `Permitted`, `Spans` and `Cells` have no bytes of their own.
+// Applies an entry to `tail`, by its kind, which says what `number` and `bytes` are. `NoRecord` if no desk
+// writes such an entry there; for example, entries of the kinds `Permitted`, `Spans` and `Cells` have no
+// bytes.
 fn apply_by_kind(tail: &mut Tail, kind: Kind, number: u64, bytes: Vec<u8>) -> Result<(), TailFault>
     ensures { Notes result (spec.tail_with_kind kind (tail_shown tail.old) number bytes.items)
         (tail_shown tail.new) }
 {
+    if !bytes.is_empty() && matches!(kind, Kind::Permitted | Kind::Spans | Kind::Cells) {
+        return Err(TailFault::NoRecord);
+    }
     match kind {
         Kind::Record => apply_header(tail, number, &bytes),
-        Kind::Permitted | Kind::Spans | Kind::Cells if !bytes.is_empty() => Err(
-            TailFault::NoRecord,
-        ),
         Kind::Permitted => apply_permitted(tail, number),
         Kind::Spans => apply_spans_limit(tail, number),
         Kind::Cells => apply_cells_limit(tail, number),
@@ -195,7 +201,8 @@ fn apply_header(tail: &mut Tail, number: u64, version: &[u8]) -> Result<(), Tail
     Ok(())
 }
 
-// Adds a permitted priority to `tail`. `NoRecord` if it is above 1,000, or invalid beside those before it.
+// Adds a permitted priority to `tail`. `NoRecord` if it is above 1,000, not greater than the one before, or
+// the 33rd.
 #[tactic(auto, unfolding(crate::specs::Tail::tail_with_permitted))]
 fn apply_permitted(tail: &mut Tail, priority: u64) -> Result<(), TailFault>
     ensures { Notes result (spec.tail_with_permitted (tail_shown tail.old) priority) (tail_shown tail.new) }
@@ -210,7 +217,7 @@ fn apply_permitted(tail: &mut Tail, priority: u64) -> Result<(), TailFault>
     Ok(())
 }
 
-// Sets the limit on the spans of an operator's live plans. `NoRecord` if it is 0 or above `MAX_SPANS`.
+// Notes the limit on the spans of an operator's live plans. `NoRecord` if it is 0 or above `MAX_SPANS`.
 #[tactic(auto, unfolding(crate::specs::Tail::tail_with_spans))]
 fn apply_spans_limit(tail: &mut Tail, spans: u64) -> Result<(), TailFault>
     ensures { Notes result (spec.tail_with_spans (tail_shown tail.old) spans) (tail_shown tail.new) }
@@ -222,7 +229,7 @@ fn apply_spans_limit(tail: &mut Tail, spans: u64) -> Result<(), TailFault>
     Ok(())
 }
 
-// Sets the limit on the cells of all plans of an operator. `NoRecord` if it is 0 or above `MAX_TOTAL_CELLS`.
+// Notes the limit on the cells of all plans of an operator. `NoRecord` if it is 0 or above `MAX_TOTAL_CELLS`.
 #[tactic(auto, unfolding(crate::specs::Tail::tail_with_cells))]
 fn apply_cells_limit(tail: &mut Tail, cells: u64) -> Result<(), TailFault>
     ensures { Notes result (spec.tail_with_cells (tail_shown tail.old) cells) (tail_shown tail.new) }
@@ -234,7 +241,8 @@ fn apply_cells_limit(tail: &mut Tail, cells: u64) -> Result<(), TailFault>
     Ok(())
 }
 
-// Adds an operator with this name and ceiling to `tail`. `NoRecord` if its name or its ceiling is invalid.
+// Adds an operator with this name and ceiling to `tail`. `NoRecord` if the name is no operator's name, or the
+// ceiling, the greatest priority that it may use, is above 1,000.
 #[tactic(auto, unfolding(crate::specs::Tail::tail_with_operator))]
 fn apply_operator(tail: &mut Tail, ceiling: u64, name: &[u8]) -> Result<(), TailFault>
     ensures { Notes result (spec.tail_with_operator (tail_shown tail.old) ceiling name.now)
@@ -256,7 +264,7 @@ fn apply_operator(tail: &mut Tail, ceiling: u64, name: &[u8]) -> Result<(), Tail
 }
 
 // Notes a request, which has no answer yet, and drops the operators before it: the desk has enrolled these.
-// `NoRecord` if the request before has no answer, or the second is out of range.
+// `NoRecord` if the request before is unanswered, or `second` is above `MAX_SECOND`.
 #[tactic(auto, unfolding(crate::specs::Tail::tail_with_request))]
 fn apply_request(tail: &mut Tail, second: u64, request: Vec<u8>) -> Result<(), TailFault>
     ensures { Notes result (spec.tail_with_request (tail_shown tail.old) second request.items)

@@ -25,7 +25,7 @@ pub struct WrittenRecord<J: Drop> {
 }
 
 impl<J: Journal + Drop> WrittenRecord<J> {
-    /// A request journal whose entries are appended to the file `journal`.
+    /// A request journal whose entries are appended to the file `journal`. It writes nothing yet.
     pub fn new(alloc: Global, journal: J) -> WrittenRecord<J>
         ensures { result.journal ≡ journal }
     {
@@ -47,7 +47,8 @@ impl<J: Journal + Drop> WrittenRecord<J> {
         self.journal.sync()
     }
 
-    // Appends an entry with this kind, number and bytes, without flushing it.
+    // Appends an entry with this kind, number and bytes, without flushing it. After an error it counts as not
+    // appended, though a part of it may be in the file.
     #[tactic(auto, using(crate::proofs::WritingLemmas::extends_none))]
     fn append(&mut self, kind: Kind, number: u64, bytes: &[u8]) -> Result<(), AppendError<J::Fault>>
         ensures done { OnOk result (FollowsWrites (J.writes self.old.journal) (J.writes self.new.journal)
@@ -62,7 +63,8 @@ impl<J: Journal + Drop> WrittenRecord<J> {
         append_text(&mut self.journal, &text)
     }
 
-    // Appends an entry for each new enrolment, without flushing them.
+    // Appends an entry for each new enrolment, without flushing them. After an error they count as not
+    // appended, though some of them may be in the file.
     #[tactic(auto, using(crate::proofs::WritingLemmas::extends_none))]
     fn append_enrolments(
         &mut self,
@@ -82,8 +84,8 @@ impl<J: Journal + Drop> WrittenRecord<J> {
     }
 }
 
-// Appends `text` to the file, without flushing it. If that fails, it counts as not appended: a truncated
-// entry isn't read back.
+// Appends `text`, which are whole entries, to the file, without flushing it. After an error it counts as not
+// appended, though a part of it may be in the file: an entry that is cut short isn't read back.
 #[tactic(auto, using(crate::proofs::WritingLemmas::extends_by))]
 fn append_text<J: Journal>(journal: &mut J, text: &[u8]) -> Result<(), AppendError<J::Fault>>
     ensures done { OnOk result
@@ -99,7 +101,8 @@ impl<J: Journal + Drop> Record for WrittenRecord<J> {
 
     ghost noted = { λ s. noted_in s.second (J.writes s.journal) };
 
-    // Appends an entry for each new enrolment, and flushes them. If there are none, nothing is flushed.
+    // Appends an entry for each new enrolment, and flushes them. If there are none, nothing is flushed. After
+    // an error they may be in the file all the same.
     fn append_new_enrolments(
         &mut self,
         newly_enrolled: &[Enrolment],
@@ -122,7 +125,8 @@ impl<J: Journal + Drop> Record for WrittenRecord<J> {
         sync_to(&mut self.journal)
     }
 
-    // Appends the entry of a request and flushes it. Does nothing if the request is empty (none came whole).
+    // Appends the entry of a request and flushes it. Does nothing if the request is empty: none came whole.
+    // After an error the entry may be in the file all the same.
     fn append_request(&mut self, moment: Moment, bytes: &[u8]) -> Result<(), AppendError<J::Fault>>
         ensures steps { AddsIf None None (is_ok result) (Asked moment.second bytes.now) }
         ensures noted { NotesOnDisk (noted_in self.old.second (J.writes self.old.journal))
@@ -142,7 +146,7 @@ impl<J: Journal + Drop> Record for WrittenRecord<J> {
     }
 
     // Appends the entry of the answer to the last request, without flushing it. Does nothing if the answer is
-    // empty (none was made).
+    // empty: none was made.
     fn append_answer(&mut self, connection: Exchange<'_>) -> Result<(), AppendError<J::Fault>>
         ensures steps { AddsIf None None (is_ok result) (Answered (parting_of connection.entry)) }
         ensures noted { Notes (noted_in self.old.second (J.writes self.old.journal))

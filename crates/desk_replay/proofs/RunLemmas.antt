@@ -9,7 +9,7 @@ use Rattle.desk_wire.specs.Streams.{course}
 use Rattle.desk_replay.specs.Replaying.{IsDeskFault, Outcome, State, played, taken, then_taken}
 use Rattle.desk_replay.specs.Running.{AreEntriesPlayed, Ends, HasReplayed, IsEntryPlayed, size_of, start}
 use Rattle.desk_replay.specs.declared.stream.ReplayEnd.{ReplayEnd}
-use Rattle.desk_replay.specs.declared.stream.ReplayEnd.TheVariants.{End, Until, Unread, Unplayed}
+use Rattle.desk_replay.specs.declared.stream.ReplayEnd.TheVariants.{End, Until, Unread, Unplayed, Endless}
 
 ok_same : {A E : Type 0} {x y : A} → ◌≡◌ {A = Result A E} (Ok x) (Ok y) → x ≡ y
 ok_same e = cc
@@ -72,12 +72,14 @@ one_more place size now old mid new w s t down is first next = record {
   gives = λ h. played_more (start w) s t first.all next.one (first.gives (down h)) (next.gives h);
 }
 
-ends_at : {H : Type 0} (until : Option ℕ) (end : ReplayEnd) (mid new : Option (List ℕ)) (s t : State)
-    → Ends H until end (course mid new) s → (H → t ≡ s) → Ends H until end (course mid new) t
-ends_at until End mid new s t h same = h
-ends_at until Until mid new s t h same = h
-ends_at until (Unread fault) mid new s t h same = h
-ends_at until (Unplayed fault) mid new s t h same = record {
+ends_at : {R H : Type 0} (until : Option ℕ) (end : ReplayEnd R) (place : ℕ) (mid new : Option (List ℕ))
+    (s t : State) → Ends H until end 0 (course mid new) s → (H → t ≡ s)
+    → Ends H until end place (course mid new) t
+ends_at until End place mid new s t h same = h
+ends_at until Until place mid new s t h same = h
+ends_at until (Unread fault) place mid new s t h same = h
+ends_at until Endless place mid new s t h same = absurd (omega (arith, h))
+ends_at until (Unplayed fault) place mid new s t h same = record {
   one = h.one;
   fits = h.fits;
   read = h.read;
@@ -86,10 +88,11 @@ ends_at until (Unplayed fault) mid new s t h same = record {
 }
 
 -- no entry more
-pub no_more : {H G : Type 0} (until : Option ℕ) (end : ReplayEnd) (place : ℕ)
+pub no_more : {R H G : Type 0} (until : Option ℕ) (end : ReplayEnd R) (place : ℕ)
     (old mid new : Option (List ℕ)) (w : DeskWorld) (s t : State) → (G → H)
     → AreEntriesPlayed H place (course old mid) w s
-    → Ends G until end (course mid new) s × (G → t ≡ s) → HasReplayed G until end place (course old new) w t
+    → Ends G until end 0 (course mid new) s × (G → t ≡ s)
+    → HasReplayed G until end place (course old new) w t
 no_more until end place old mid new w s t down first ends = record {
   mid = mid;
   first = record {
@@ -99,5 +102,5 @@ no_more until end place old mid new w s t down first ends = record {
     read = first.read;
     gives = λ h. first.gives (down h) ∙ ap Ok (sym (ends.1 h));
   };
-  ends = ends_at until end mid new s t ends.0 ends.1;
+  ends = ends_at until end place mid new s t ends.0 ends.1;
 }

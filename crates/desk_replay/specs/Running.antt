@@ -9,7 +9,7 @@ use Rattle.desk_record.specs.{Record.EntryParts, Record.Fits, Record.entries, Re
 use Rattle.desk_record.specs.declared.kind.Kind.TheVariants as kind
 use Rattle.desk_record.specs.declared.reading.ReadFault.TheVariants as unread
 use Rattle.desk_wire.specs.Streams.{Course, course, Passage}
-use Rattle.desk_replay.specs.{declared.fault.ReplayFault.ReplayFault, declared.fault.ReplayFault.TheVariants.OutOfMemory, declared.fault.ReplayFault.TheVariants.Store, declared.fault.ReplayFault.TheVariants.NoRecord, declared.stream.ReplayEnd.ReplayEnd, declared.stream.ReplayEnd.TheVariants.End, declared.stream.ReplayEnd.TheVariants.Until, declared.stream.ReplayEnd.TheVariants.Unread, declared.stream.ReplayEnd.TheVariants.Unplayed, Replaying.IsDeskFault, Replaying.State, Replaying.played, Replaying.taken}
+use Rattle.desk_replay.specs.{declared.fault.ReplayFault.ReplayFault, declared.fault.ReplayFault.TheVariants.OutOfMemory, declared.fault.ReplayFault.TheVariants.Store, declared.fault.ReplayFault.TheVariants.NoRecord, declared.stream.ReplayEnd.ReplayEnd, declared.stream.ReplayEnd.TheVariants.End, declared.stream.ReplayEnd.TheVariants.Until, declared.stream.ReplayEnd.TheVariants.Unread, declared.stream.ReplayEnd.TheVariants.Endless, declared.stream.ReplayEnd.TheVariants.Unplayed, Replaying.IsDeskFault, Replaying.State, Replaying.played, Replaying.taken}
 use Rattle.desk_replay.specs.declared.fault.ReplayFault.TheVariants as fault
 use Rattle.desk_cli.specs.{Exits.EndsWith, Exits.Ending, Exits.FailsWith, Exits.IsPartlyWritten, Exits.IsWrittenOrCut, declared.failure.ErrorCode.ErrorCode}
 use Rattle.desk_cli.specs.declared.failure.ErrorCode.TheVariants as failure
@@ -65,17 +65,20 @@ pub record IsTooLate (until : Option ℕ) (reads : Course (Option (List ℕ))) :
   pub read : Consumes reads.before reads.after (entry one)
   pub later : IsTrue (is_request_after until one.kind one.number)
 
--- why the replay ended
-abbrev pub Ends : Type 0 → Option ℕ → ReplayEnd → Course (Option (List ℕ)) → State → Type 0
-Ends H until End reads s = IsAtEnd reads.before
-Ends H until Until reads s = IsTooLate until reads
-Ends H until (Unread fault) reads s = LacksEntry reads.before fault
-Ends H until (Unplayed fault) reads s = IsEntryRefused H fault reads s
+-- why the replay ended, after entries of `place` bytes
+abbrev pub Ends :
+    {R : Type 0} → Type 0 → Option ℕ → ReplayEnd R → ℕ → Course (Option (List ℕ)) → State → Type 0
+Ends H until End place reads s = IsAtEnd reads.before
+Ends H until Until place reads s = IsTooLate until reads
+Ends H until (Unread fault) place reads s = LacksEntry reads.before fault
+Ends H until (Unplayed fault) place reads s = IsEntryRefused H fault reads s
+Ends H until Endless place reads s = 2 ^ 64 - 1 ≤ place
 
 -- one step of a replay: an entry is replayed, or the replay ends and the state is unchanged
-abbrev pub Steps : Type 0 → Option ℕ → Result ℕ ReplayEnd → Course (Option (List ℕ)) → State → State → Type 0
+abbrev pub Steps :
+    {R : Type 0} → Type 0 → Option ℕ → Result ℕ (ReplayEnd R) → Course (Option (List ℕ)) → State → State → Type 0
 Steps H until (Ok size) reads s t = IsEntryPlayed H size reads s t
-Steps H until (Err end) reads s t = Ends H until end reads s × (H → t ≡ s)
+Steps H until (Err end) reads s t = Ends H until end 0 reads s × (H → t ≡ s)
 
 -- the first entries of a stream are replayed, which are `place` bytes together
 pub record AreEntriesPlayed (H : Type 0) (place : ℕ) (reads : Course (Option (List ℕ))) (w : DeskWorld)
@@ -88,18 +91,19 @@ pub record AreEntriesPlayed (H : Type 0) (place : ℕ) (reads : Course (Option (
     pub gives : H → played (start w) all ≡ Ok s
 
 -- the first entries are replayed, up to what ended the replay; `place` is how many bytes are before that
-pub record HasReplayed (H : Type 0) (until : Option ℕ) (ended : ReplayEnd) (place : ℕ)
+pub record HasReplayed {R : Type 0} (H : Type 0) (until : Option ℕ) (ended : ReplayEnd R) (place : ℕ)
     (reads : Course (Option (List ℕ))) (w : DeskWorld) (t : State) : Type 0 where
   pub mid : Option (List ℕ)
   pub first : AreEntriesPlayed H place (course reads.before mid) w t
-  pub ends : Ends H until ended (course mid reads.after) t
+  pub ends : Ends H until ended place (course mid reads.after) t
 
 -- ==== What the command `replay` prints, and how it ends
 -- the error code, by how a replay ended; None if all was replayed that was to be
-abbrev pub failure_of_end : ReplayEnd → Option ErrorCode
+abbrev pub failure_of_end : {R : Type 0} → ReplayEnd R → Option ErrorCode
 failure_of_end End = None
 failure_of_end Until = None
-failure_of_end (Unread unread.Read) = Some failure.Read
+failure_of_end (Unread (unread.Unread error)) = Some failure.Read
+failure_of_end Endless = Some failure.Read
 failure_of_end (Unread unread.OutOfMemory) = Some failure.Memory
 failure_of_end (Unread unread.CutShort) = Some failure.CutShort
 failure_of_end (Unread unread.NoRecord) = Some failure.NoRecord
@@ -110,10 +114,11 @@ failure_of_end (Unplayed fault.NotNext) = Some failure.NoRecord
 failure_of_end (Unplayed fault.Differs) = Some failure.Differs
 
 -- why a replay ended, in words for the administrator
-abbrev pub cause_of_end : ReplayEnd → List ℕ
+abbrev pub cause_of_end : {R : Type 0} → ReplayEnd R → List ℕ
 cause_of_end End = codes "all is played"
 cause_of_end Until = codes "all is played"
-cause_of_end (Unread unread.Read) = codes "a read failed"
+cause_of_end (Unread (unread.Unread error)) = codes "a read failed"
+cause_of_end Endless = codes "a read failed"
 cause_of_end (Unread unread.OutOfMemory) = codes "memory ran out"
 cause_of_end (Unread unread.CutShort) = codes "an entry that is cut short"
 cause_of_end (Unread unread.NoRecord) = codes "no entry of a record"
@@ -167,15 +172,15 @@ IsReportedBy None line cause end writes = IsAllPlayed line end writes
 IsReportedBy (Some f) line cause end writes = IsFailed f cause end writes
 
 -- what is printed, by how the replay ended
-abbrev pub IsReplayReported : ReplayEnd → ℕ → ℕ → ℕ → Ending → Course (Option (List ℕ)) → Type 0
+abbrev pub IsReplayReported : {R : Type 0} → ReplayEnd R → ℕ → ℕ → ℕ → Ending → Course (Option (List ℕ)) → Type 0
 IsReplayReported ended requests changes place end writes =
     IsReportedBy (failure_of_end ended) (replayed_line requests changes)
     (place_line requests place (cause_of_end ended)) end writes
 
--- the journal of an input is replayed at a desk, up to where that ends, and the result is printed
-pub record IsReplayed (H : Type 0) (until : Option ℕ) (p : Passage) (end : Ending) (w after : DeskWorld) :
+-- the journal of an input `R` is replayed at a desk, up to where that ends, and the result is printed
+pub record IsReplayed (R : Type 0) (H : Type 0) (until : Option ℕ) (p : Passage) (end : Ending) (w after : DeskWorld) :
     Type 0 where
-  pub ended : ReplayEnd
+  pub ended : ReplayEnd R
   pub place : ℕ
   pub state : State
   pub replayed : HasReplayed H until ended place p.reads w state
@@ -185,9 +190,9 @@ pub record IsReplayed (H : Type 0) (until : Option ℕ) (p : Passage) (end : End
 -- the same at the desk that was opened, which is returned (`left`). Its doubt about the storage has not
 -- become less, and its reads are still shielded if they were
 abbrev pub Replays :
-    {S : Type 0} → Ghosts S → Option ℕ → Passage → Ending → Option (Parts S) → Parts S → Type 0
-Replays g until p end left desk = IsSomeAnd left (λ left.
-    IsReplayed (IsHonest (g.doubt left.store)) until p end (world_of g.content desk) (world_of g.content left)
+    {S : Type 0} → Type 0 → Ghosts S → Option ℕ → Passage → Ending → Option (Parts S) → Parts S → Type 0
+Replays R g until p end left desk = IsSomeAnd left (λ left.
+    IsReplayed R (IsHonest (g.doubt left.store)) until p end (world_of g.content desk) (world_of g.content left)
     × (g.doubt desk.store ≤ g.doubt left.store)
     × (g.is_shielded desk.store → g.is_shielded left.store))
 

@@ -24,6 +24,7 @@ impl From<AllocError> for ReplayFault {
 
     ghost from_gives = { λ _ fault. fault ≡ replay_fault.OutOfMemory };
 
+    // A failed allocation means that memory ran out.
     fn from(_error: AllocError) -> ReplayFault {
         ReplayFault::OutOfMemory
     }
@@ -35,7 +36,8 @@ impl From<DeskFault> for ReplayFault {
 
     ghost from_gives = { λ fault f. f ≡ replay_fault_of fault };
 
-    // The fault of a call of the desk. What the desk's rules refuse is in no journal.
+    // The fault of an entry for which a call of the desk failed. What the desk's rules refuse (an unknown
+    // operator or plan, a ceiling above 1,000) is in no journal: it becomes `NoRecord`.
     fn from(fault: DeskFault) -> ReplayFault {
         match fault {
             DeskFault::OutOfMemory => ReplayFault::OutOfMemory,

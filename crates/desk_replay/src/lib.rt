@@ -1,4 +1,7 @@
 //! Replay of a request journal at a desk, entry by entry: each answer is compared with the recorded one.
+//!
+//! A journal is a folder of files. A file has entries: first its header and the desk's settings, then the
+//! enrolments, the requests and the answers, in the order in which they came.
 #![tactic(auto)]
 
 mod fault;

@@ -20,8 +20,9 @@ use std::io::{Read, Write};
 
 /// Replays the journal `input` at the desk `opened`, up to the first request whose Unix second is greater
 /// than `until`, if that is given. Prints how many requests were replayed and how many of them changed the
-/// database, and returns the exit report and the desk. If an entry can't be replayed, where and why goes to
-/// `errors`, and then the error code; if no desk could be opened, only the error code, and nothing is read.
+/// database, and returns the exit report and the desk. If an entry can't be read or replayed, where and why
+/// goes to `errors`, and then the error code. If no desk could be opened, only the error code does, and
+/// nothing is read.
 pub fn replay_opened<S: PlanStore + Drop, R: Read, W: Write, E: Write>(
     alloc: Global,
     until: Option<u64>,
@@ -30,7 +31,7 @@ pub fn replay_opened<S: PlanStore + Drop, R: Read, W: Write, E: Write>(
     output: &mut W,
     errors: &mut E,
 ) -> (ExitReport<E>, Option<Desk<S>>)
-    ensures opened { IfOk opened (Replays S.PlanStore until
+    ensures opened { IfOk opened (Replays R S.PlanStore until
         (passage R.Read W.Write input.old input.new output.old output.new)
         (ending result.0 (E.contents errors.old) (E.contents errors.new)) result.1) }
     ensures unopened { IfErr opened (IsUnplayed
@@ -55,7 +56,7 @@ fn replay_at_desk<S: PlanStore, R: Read, W: Write, E: Write>(
     output: &mut W,
     errors: &mut E,
 ) -> ExitReport<E>
-    ensures replayed { IsReplayed (IsHonest (S.doubt desk.new.store)) until
+    ensures replayed { IsReplayed R (IsHonest (S.doubt desk.new.store)) until
         (passage R.Read W.Write input.old input.new output.old output.new)
         (ending result (E.contents errors.old) (E.contents errors.new))
         (world_of S.content desk.old) (world_of S.content desk.new) }
@@ -67,9 +68,9 @@ fn replay_at_desk<S: PlanStore, R: Read, W: Write, E: Write>(
 
 // Prints the result of a replay: a summary to `output` if all was replayed; else where and why it stopped to
 // `errors`, and then the error code.
-fn report_end<W: Write, E: Write>(
+fn report_end<R, W: Write, E: Write>(
     alloc: Global,
-    replayed: &Replayed,
+    replayed: &Replayed<R>,
     output: &mut W,
     errors: &mut E,
 ) -> ExitReport<E>
@@ -90,13 +91,15 @@ fn report_end<W: Write, E: Write>(
 
 // Why a replay didn't play all that was to be played: the error code of the command, and the cause in words
 // for the administrator, in which `record` stands for a journal. None if all was played.
-fn end_fault(ended: ReplayEnd) -> Option<(ErrorCode, &'static str)>
+fn end_fault<R>(ended: ReplayEnd<R>) -> Option<(ErrorCode, &'static str)>
     ensures code { option_map (λ why. why.0) result ≡ spec.failure_of_end ended }
     ensures cause { IfSome result (λ why. why.1.now ≡ spec.cause_of_end ended) }
 {
-    Some(match ended {
+    let why = match ended {
         ReplayEnd::End | ReplayEnd::Until => return None,
-        ReplayEnd::Unread(ReadFault::Read) => (ErrorCode::Read, "a read failed"),
+        ReplayEnd::Endless | ReplayEnd::Unread(ReadFault::Unread(_)) => {
+            (ErrorCode::Read, "a read failed")
+        }
         ReplayEnd::Unread(ReadFault::OutOfMemory) => (ErrorCode::Memory, "memory ran out"),
         ReplayEnd::Unread(ReadFault::CutShort) => (
             ErrorCode::CutShort,
@@ -117,10 +120,12 @@ fn end_fault(ended: ReplayEnd) -> Option<(ErrorCode, &'static str)>
             ErrorCode::Differs,
             "another answer than the recorded one",
         ),
-    })
+    };
+    Some(why)
 }
 
-// Prints the summary of a complete replay. `Memory` if there is no memory for it; `Write` if a write fails.
+// Prints the summary of a complete replay: how many requests were replayed, and how many of them changed the
+// database (`changes`). `Memory` if there is no memory for it; `Write` if a write fails.
 #[tactic(auto, using(crate::proofs::ReportingLemmas::begun_part))]
 fn print_summary<W: Write>(
     alloc: Global,
@@ -136,7 +141,7 @@ fn print_summary<W: Write>(
     Ok(())
 }
 
-// The summary of a complete replay: how many requests were replayed, and how many changed the database.
+// The summary of a complete replay, as `print_summary` prints it. An error if memory runs out.
 #[tactic(auto, unfolding(crate::specs::Running::replayed_line))]
 fn summary_line(alloc: Global, requests: u64, changes: u64) -> Result<String, AllocError>
     ensures { IfOk result (λ text. string_bytes text ≡ replayed_line requests changes) }
@@ -144,8 +149,8 @@ fn summary_line(alloc: Global, requests: u64, changes: u64) -> Result<String, Al
     format!(in alloc; "replayed {requests} requests, {changes} changes, all answers alike\n")
 }
 
-// Prints where and why a replay stopped: after `requests` requests, at the byte `place` of the input. Write
-// errors are ignored; if memory runs out, nothing is printed.
+// Prints where and why a replay stopped: after `requests` requests, at the byte `place` of the input (from
+// 0), because of `cause`. Write errors are ignored; if memory runs out, nothing is printed.
 fn report_cause<E: Write>(alloc: Global, requests: u64, place: u64, cause: &str, errors: &mut E)
     ensures { IsLineWritten (place_line requests place cause.now) (E.contents errors.old)
         (E.contents errors.new)
@@ -156,7 +161,8 @@ fn report_cause<E: Write>(alloc: Global, requests: u64, place: u64, cause: &str,
     }
 }
 
-// The line that says where and why a replay stopped, as `report_cause` prints it.
+// The line that says where and why a replay stopped, as `report_cause` prints it. An error if memory runs
+// out.
 #[tactic(auto, unfolding(crate::specs::Running::place_line))]
 fn cause_line(alloc: Global, requests: u64, place: u64, cause: &str) -> Result<String, AllocError>
     ensures { IfOk result (λ text. string_bytes text ≡ place_line requests place cause.now) }
@@ -164,7 +170,7 @@ fn cause_line(alloc: Global, requests: u64, place: u64, cause: &str) -> Result<S
     format!(in alloc; "uss_desk: request {requests}, at byte {place}: {cause}\n")
 }
 
-// Writes `text`, up to the first write that fails, and returns the write error, if there was one.
+// Writes `text` to `errors`, up to the first write that fails. Returns the write error, if there was one.
 #[tactic(auto, using(crate::proofs::ReportingLemmas::begun_part))]
 fn write_line<E: Write>(errors: &mut E, text: &str) -> Option<WriteError<E>>
     ensures { IsWrittenOrCut (is_some result) text.now (E.contents errors.old) (E.contents errors.new) }

@@ -1,4 +1,7 @@
 //! Entries of a journal, replayed at a desk.
+//!
+//! A request is unanswered (`asking`) until its recorded answer was compared. If the desk that wrote the
+//! journal stopped before it had recorded an answer, its next journal file repeats the request.
 
 ghost use Rattle.std.specs.Prelude.{◌≡◌, ◌⊎◌, IfErr, IfOk, OnErr, OnOk};
 ghost use Rattle.desk_store.specs.Changes.{HasRisen, IsHonest, Remembers};
@@ -22,7 +25,8 @@ use io_ends::Moment;
 use std::alloc::{AllocError, Global};
 use volume4d::MAX_SECOND;
 
-/// Replays one entry of a journal at a desk: a setting, an enrolment, a request, or an answer to compare.
+/// Replays one entry of a journal at a desk: the header of a file, a setting, an enrolment, a request, or an
+/// answer to compare.
 ///
 /// # Errors
 ///
@@ -53,8 +57,9 @@ pub(crate) fn play_entry<S: PlanStore>(
     play_entry_after_header(alloc, desk, progress, kind, number, bytes)
 }
 
-// Replays an entry that isn't the first of a journal file. By its `kind`, `number` and `bytes` are a priority
-// or a limit without bytes, a ceiling and a name, or a second and the bytes of a request or an answer.
+// Replays an entry that isn't the first of a journal file; its errors are those of `play_entry`. What
+// `number` and `bytes` are, `Kind` says: a priority or a limit (`bytes` is empty), a ceiling and a name, or a
+// second and a request or an answer.
 fn play_entry_after_header<S: PlanStore>(
     alloc: Global,
     desk: &mut Desk<S>,
@@ -68,11 +73,11 @@ fn play_entry_after_header<S: PlanStore>(
         (course progress.old progress.new) }
     ensures remembered { Remembers S.doubt S.faults S.is_shielded desk.old.store desk.new.store }
 {
+    if !bytes.is_empty() && matches!(kind, Kind::Permitted | Kind::Spans | Kind::Cells) {
+        return Err(ReplayFault::NoRecord);
+    }
     match kind {
         Kind::Record => Err(ReplayFault::NoRecord),
-        Kind::Permitted | Kind::Spans | Kind::Cells if !bytes.is_empty() => Err(
-            ReplayFault::NoRecord,
-        ),
         Kind::Permitted => permit(desk, progress, number),
         Kind::Spans => limit_spans(desk, progress, number),
         Kind::Cells => limit_cells(desk, progress, number),
@@ -82,9 +87,9 @@ fn play_entry_after_header<S: PlanStore>(
     }
 }
 
-// Carries out a recorded request at its Unix `second`, and notes that its recorded answer is to follow.
-// `NoRecord` if no request may come here, or if `second` is above `MAX_SECOND`. A repeated request is carried
-// out again, and counted once.
+// Carries out a recorded request at its Unix `second`, and notes that its recorded answer is to follow. A
+// repeated request is carried out again, and counted once. `NoRecord` if `second` is above `MAX_SECOND`, or
+// if a request is unanswered that this doesn't repeat; `OutOfMemory` or `Store` because of the desk.
 #[tactic(auto, unfolding(crate::specs::Replaying::requested))]
 fn replay_request<S: PlanStore>(
     alloc: Global,
@@ -124,15 +129,16 @@ fn replay_request<S: PlanStore>(
     Ok(())
 }
 
-// Whether the request `asking`, if there is one, changed the database so far.
+// Whether the unanswered request `asking` changed the database; false if there is none.
 fn has_changed(asking: &Option<UnansweredRequest>) -> bool
     ensures { result ≡ spec.has_changed (asking_in asking.now) }
 {
     matches!(asking, Some(asking) if asking.made_change)
 }
 
-// The count of requests that changed the database, after one more request. `now` is whether that changed it,
-// `before` whether it did so the first time, if it is repeated: it is counted once.
+// How many requests changed the database after one more request, if it was `changes` before. `now` says
+// whether that request changed it, and `before` whether it did so already when it was carried out first: then
+// it is counted already.
 fn count_change(before: bool, now: bool, changes: u64) -> u64
     ensures { result ≡ spec.with_change before now changes }
 {
@@ -143,8 +149,9 @@ fn count_change(before: bool, now: bool, changes: u64) -> u64
     }
 }
 
-// The desk's first answer to this request if it repeats `asking`, the unanswered one of the file before; None
-// if it is new. `NoRecord` if another request is still unanswered, `OutOfMemory` if memory runs out.
+// The desk's first answer to this request, if it repeats `asking`, a request that was still unanswered when
+// the current journal file began; None if no request is unanswered. `NoRecord` if one is that this doesn't
+// repeat, or repeats within the same file; `OutOfMemory` if memory runs out.
 fn first_answer_if_repeated(
     alloc: Global,
     asking: &Option<UnansweredRequest>,
@@ -162,10 +169,7 @@ fn first_answer_if_repeated(
     if !(asking.reopened && asking.second == second && asking.request.as_slice() == request) {
         return Err(ReplayFault::NoRecord);
     }
-    let first = match &asking.before {
-        Some(before) => before,
-        None => &asking.answer,
-    };
+    let first = asking.before.as_ref().unwrap_or(&asking.answer);
     Ok(Some(Vec::from_slice(alloc, first)?))
 }
 
@@ -196,7 +200,7 @@ pub fn answer_one<S: PlanStore>(
     Ok(answer.bytes)
 }
 
-// As `answer_one`, but also returns whether the database was changed.
+// Carries out one request as `answer_one` does. The answer also says whether the database was changed.
 // Long: the answer, the state after it, each fault and the crash states have each a clause.
 fn answer_in_full<S: PlanStore>(
     alloc: Global,
@@ -224,8 +228,10 @@ fn answer_in_full<S: PlanStore>(
     }
 }
 
-// Compares the recorded `answer` with the desk's. If the recorded one is a 500, another answer is accepted,
-// but the request stays unanswered: the next file has to repeat it. `NoRecord` if no answer may come here.
+// Compares the recorded `answer`, whose request has the Unix second `second`, with the desk's. If they are
+// equal, the request is answered. If the recorded one says that the desk failed (a 500), any answer of the
+// desk is accepted, but the request stays unanswered: the next file has to repeat it. Else the error is
+// `Differs`; `NoRecord` if no such request is unanswered in this file.
 #[tactic(auto, unfolding(crate::specs::Replaying::answer_outcome))]
 fn compare_answer(progress: &mut Progress, second: u64, answer: &[u8]) -> Result<(), ReplayFault>
     ensures { (w : DeskWorld)
@@ -256,7 +262,8 @@ pub fn is_500(answer: &[u8]) -> bool
     answer == out_of_memory_answer() || answer == store_answer()
 }
 
-// Whether `answer` is the desk's answer to the request `asking`, now or when it was carried out first.
+// Whether `answer` is the desk's answer to the request `asking`: the one of now, or, if the request is
+// repeated, the one when it was carried out first.
 fn is_expected(asking: &UnansweredRequest, answer: &[u8]) -> bool
     ensures { result ≡ spec.is_expected_answer (asking_shown asking.now) answer.now }
 {

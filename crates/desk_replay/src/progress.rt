@@ -1,4 +1,5 @@
-//! How far a journal was replayed.
+//! How far a journal was replayed. Its files are numbered; a file repeats the last request of the file before
+//! if that has no answer there.
 
 ghost use Rattle.std.specs.Prelude.{◌≡◌};
 ghost use Rattle.desk_run.specs.Verdicts.{DeskWorld};
@@ -58,8 +59,8 @@ impl Progress {
     }
 }
 
-/// Whether the journal file `number` may follow the file `last`: it is the next one, or, if there is no last
-/// one, the first that is replayed, which may have any number.
+/// Whether the journal file `number` may follow the file `last`: its number is greater by 1. The first file
+/// that is replayed (`last` is None) may have any number.
 pub(crate) fn may_follow(last: Option<u64>, number: u64) -> bool
     ensures { result ≡ follows last number }
 {

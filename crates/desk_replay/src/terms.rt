@@ -1,4 +1,5 @@
-//! The settings at the beginning of a journal file: they are set at the desk that replays it.
+//! The settings at the beginning of a journal file, the desk's terms: they are set at the desk that replays
+//! it. After an error the desk and `progress` are unchanged.
 
 ghost use Rattle.std.specs.Prelude.{◌≡◌};
 ghost use Rattle.desk_store.specs.Changes.{IsHonest, Remembers};
@@ -18,8 +19,9 @@ use std::alloc::Global;
 /// The version of the format.
 const VERSION: &[u8] = b"1";
 
-/// Begins the journal file `number`: removes all settings, and has an unanswered request repeated. `NoRecord`
-/// if the `version` of the format is another one, `NotNext` if the file may not follow the one before.
+/// Begins the journal file `number`: removes all settings, and notes of an unanswered request that this file
+/// has to repeat it. `NoRecord` if `version` isn't the format's, else `NotNext` if `number` isn't the next
+/// one.
 #[tactic(auto, unfolding(crate::specs::Replaying::begun))]
 pub(crate) fn begin_journal<S: PlanStore>(
     alloc: Global,
@@ -48,8 +50,8 @@ pub(crate) fn begin_journal<S: PlanStore>(
     Ok(())
 }
 
-/// Adds a permitted `priority`, at which plans of equal priority may overlap. `NoRecord` if it is above
-/// 1,000, not greater than the one before, or the 33rd; `OutOfMemory` if memory runs out.
+/// Permits the `priority`: plans of it may overlap each other. `NoRecord` if it is above 1,000, not greater
+/// than the one permitted before it, or the 33rd; `OutOfMemory` if memory runs out.
 #[tactic(auto, unfolding(crate::specs::Replaying::permitted))]
 pub(crate) fn permit<S: PlanStore>(
     desk: &mut Desk<S>,
@@ -114,8 +116,9 @@ pub(crate) fn limit_cells<S: PlanStore>(
     Ok(())
 }
 
-/// Enrols the operator `name`, or replaces its ceiling. `NoRecord` if `name` is no operator's name, or the
-/// ceiling is above 1,000; `OutOfMemory` or `Store` because of the desk.
+/// Enrols the operator `name` with this ceiling, the greatest priority that it may use, or replaces its
+/// ceiling. `NoRecord` if `name` is no operator's name, or the ceiling is above 1,000; `OutOfMemory` or
+/// `Store` because of the desk.
 #[tactic(auto, unfolding(crate::specs::Replaying::listed))]
 pub(crate) fn enrol<S: PlanStore>(
     desk: &mut Desk<S>,

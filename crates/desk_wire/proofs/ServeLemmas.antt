@@ -14,9 +14,10 @@ use Rattle.io_ends.specs.declared.serving.ServeFault.{ServeFault}
 use Rattle.io_ends.specs.declared.serving.ServeFault.TheVariants.{Read, Write, CutShort, OutOfMemory}
 use Rattle.io_ends.specs.declared.writing.PartialWrite.{PartialWrite}
 use Rattle.io_ends.specs.Writing.{BreaksOff}
-use Rattle.desk_wire.specs.declared.response.ServerError.{ServerError}
+use Rattle.desk_wire.specs.declared.{response.ServerError.ServerError, receive_fault.ReceiveFault.ReceiveFault}
+use Rattle.desk_wire.specs.declared.receive_fault.ReceiveFault.TheVariants as receive_fault
 use Rattle.desk_wire.specs.Bytes.{IsAnsweredSo, IsServerError, status_or_500}
-use Rattle.desk_wire.specs.Streams.{passed, HasServed, IsReplied, IsServed, IsTaken, IsUntouched, Stops, IsCut, IsFront, front_parsed, is_framed, size_or_zero, with_body}
+use Rattle.desk_wire.specs.Streams.{passed, HasServed, IsReplied, IsServed, IsTaken, IsUntouched, Stops, serve_fault_of, IsCut, IsFront, front_parsed, is_framed, size_or_zero, with_body}
 use Rattle.desk_wire.proofs.BytesLemmas.{asked_read}
 use Rattle.desk_wire.proofs.FrontLemmas.{is_request, message_is}
 
@@ -75,22 +76,21 @@ served_as H s status framed old new out now w after moment is served =
     subst (λ r. HasServed H (Ok r) (passed old new out now) w moment after) (sym is) served
 
 -- the exit of a `?` that hands on what stopped the reading
-pub stopped : (H cut : Type 0) (r : Result Served ServeFault) (f : ServeFault)
+pub stopped : {R : Type 0} (H cut : Type 0) (r : Result Served ServeFault) (f : ReceiveFault R)
     (old new out : Option (List ℕ))
-    (w : DeskWorld) (moment : ℤ) → IsErrAnd r (λ e. e ≡ f) → Stops cut f → (cut → IfSome old IsCut)
-    → HasServed H r (passed old new out out) w moment w
+    (w : DeskWorld) (moment : ℤ) → IsErrAnd r (λ e. e ≡ serve_fault_of f) → Stops cut f
+    → (cut → IfSome old IsCut) → HasServed H r (passed old new out out) w moment w
 stopped H cut (Ok s) f old new out w moment is stops then_cut = absurd is
-stopped H cut (Err e) f old new out w moment is stops then_cut =
+stopped {R} H cut (Err e) f old new out w moment is stops then_cut =
     subst (λ z. HasServed H (Err z) (passed old new out out) w moment w) (sym is) (by f stops)
   where
     untouched : IsUntouched out out w w
     untouched = record { written = Keeps-refl out; left = refl }
 
-    by : (f : ServeFault) → Stops cut f → HasServed H (Err f) (passed old new out out) w moment w
-    by Read s = untouched
-    by OutOfMemory s = untouched
-    by CutShort s = (then_cut s, untouched)
-    by (Write fault) s = absurd s
+    by : (f : ReceiveFault R) → Stops cut f → HasServed H (Err (serve_fault_of f)) (passed old new out out) w moment w
+    by (receive_fault.Unread error) s = untouched
+    by receive_fault.OutOfMemory s = untouched
+    by receive_fault.CutShort s = (then_cut s, untouched)
 
 -- the exit of a `?` that hands on what stopped the writing
 pub broken : (H : Type 0) (r : Result Served ServeFault) (fault : PartialWrite)
@@ -110,20 +110,12 @@ broken H (Err e) fault old new out now w after moment request answer why is off 
     })
 
 -- the exit of a `?` that hands on what stopped the reading of a request, with what that says of the request
-pub stopped_so : {A : Type 0} (cut whole : Type 0) (r : Result A ServeFault) (f : ServeFault)
+pub stopped_so : {A R : Type 0} (cut whole : Type 0) (r : Result A (ReceiveFault R)) (f : ReceiveFault R)
     → IsErrAnd r (λ e. e ≡ f) → Stops cut f → (cut → whole) → IfErr r (Stops whole)
 stopped_so cut whole (Ok x) f is stops then_whole = tt
-stopped_so cut whole (Err e) f is stops then_whole = subst (Stops whole) (sym is) (by f stops)
+stopped_so {A} {R} cut whole (Err e) f is stops then_whole = subst (Stops whole) (sym is) (by f stops)
   where
-    by : (f : ServeFault) → Stops cut f → Stops whole f
-    by Read s = tt
-    by OutOfMemory s = tt
-    by CutShort s = then_whole s
-    by (Write fault) s = absurd s
-
--- a request that was put together, if that was done
-pub taken_so : {V : Type 0} (items : V → List ℕ) (r : Result V ServeFault) (old new : Option (List ℕ))
-    (request : List ℕ) → IfOk r (λ v. items v ≡ request) → IsTaken old new request
-    → IfOk r (λ v. 0 < length (items v) → IsTaken old new (items v))
-taken_so items (Ok v) old new request is taken = λ some. subst (IsTaken old new) (sym is) taken
-taken_so items (Err e) old new request is taken = tt
+    by : (f : ReceiveFault R) → Stops cut f → Stops whole f
+    by (receive_fault.Unread error) s = tt
+    by receive_fault.OutOfMemory s = tt
+    by receive_fault.CutShort s = then_whole s

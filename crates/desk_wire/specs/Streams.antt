@@ -10,7 +10,10 @@ use Rattle.request_parser.specs.declared.{message.Front.Front, wire_fault.WireFa
 use Rattle.request_parser.specs.{Heads.ends_head, Heads.head_len, Heads.least, Messages.FrontParts, Messages.MessageParts, Messages.front_in, Messages.front_shown, Messages.message_in, Messages.Reading, WireLimits.head_room, Requests.asked}
 use Rattle.io_ends.specs.declared.{serving.Served.Served, serving.Served.TheVariants.Answered, serving.Served.TheVariants.End, serving.ServeFault.ServeFault, serving.ServeFault.TheVariants.Read, serving.ServeFault.TheVariants.Write, serving.ServeFault.TheVariants.CutShort, serving.ServeFault.TheVariants.OutOfMemory, writing.PartialWrite.PartialWrite}
 use Rattle.io_ends.specs.Writing.{BreaksOff}
-use Rattle.desk_wire.specs.declared.response.ServerError.{ServerError}
+use Rattle.desk_wire.specs.declared.{response.ServerError.ServerError, receive_fault.ReceiveFault.ReceiveFault}
+use Rattle.desk_wire.specs.declared.receive_fault.ReceiveFault.TheVariants as receive_fault
+use Rattle.io_ends.specs.declared.chunks.ChunkError.{ChunkError}
+use Rattle.io_ends.specs.declared.chunks.ChunkError.TheVariants as chunk_error
 use Rattle.desk_wire.specs.Bytes.{IsAnsweredSo, IsServerError, status_or_500, world_after, desk_fault}
 
 -- ==== The requests that the bytes of a stream are, one after the other (RFC 9112, section 2.1)
@@ -153,13 +156,23 @@ pub record IsBrokenOff (H : Type 0) (p : Passage) (w : DeskWorld) (moment : ℤ)
   pub replied : IsReplied H w moment request answer why after
   pub off : BreaksOff answer p.writes.before p.writes.after fault
 
--- the faults at which reading a request stops. At `CutShort` the input ended inside the request, as `cut`
--- says; of the input at the others nothing is said
-abbrev pub Stops : Type 0 → ServeFault → Type 0
-Stops cut CutShort = cut
-Stops cut Read = ⊤
-Stops cut OutOfMemory = ⊤
-Stops cut (Write fault) = ⊥
+-- what a fault of reading a request says: at `CutShort` the input ended inside the request, as `cut` says; of
+-- the input at the others nothing is said
+abbrev pub Stops : {R : Type 0} → Type 0 → ReceiveFault R → Type 0
+Stops cut receive_fault.CutShort = cut
+Stops cut (receive_fault.Unread error) = ⊤
+Stops cut receive_fault.OutOfMemory = ⊤
+
+-- the fault of reading a request of which a chunk was not read
+abbrev pub unread_chunk : {R : Type 0} → ChunkError R → ReceiveFault R
+unread_chunk (chunk_error.Read error) = receive_fault.Unread error
+unread_chunk chunk_error.OutOfMemory = receive_fault.OutOfMemory
+
+-- the fault of serving a request that was not read whole
+abbrev pub serve_fault_of : {R : Type 0} → ReceiveFault R → ServeFault
+serve_fault_of receive_fault.CutShort = CutShort
+serve_fault_of (receive_fault.Unread error) = Read
+serve_fault_of receive_fault.OutOfMemory = OutOfMemory
 
 -- the result of serving one request of a stream, from the world `w` to the world `after`. `H` says that the
 -- store is honest; `p` are the bytes that were read and written

@@ -19,10 +19,10 @@ use io_ends::Moment;
 use request_parser::{Message, ReadError, WireFault, parse_message, read_message};
 use std::alloc::{AllocError, Global};
 
-/// How many bytes are reserved before a request is carried out: enough for any answer with the status 500.
+// How many bytes are reserved before a request is carried out: enough for any answer with the status 500.
 const RESERVED_LEN: usize = 512;
 
-// An answer with another status than 500.
+// An answer whose status is not 500.
 #[derive(Drop)]
 struct Response {
     status: u16,
@@ -153,7 +153,7 @@ fn answer_message<S: PlanStore>(
 }
 
 // Carries out `asked`, an operator's call: prepares its reply and its change, and then commits the change.
-// The errors are those of `respond`. (`Ceiling` never comes: only an enrolment has it.)
+// The errors are those of `respond`. (`Ceiling` can't occur here: it is a fault of enrolments alone.)
 fn answer_call<S: PlanStore>(
     alloc: Global,
     desk: &mut Desk<S>,

@@ -5,6 +5,7 @@ mod answering;
 mod batch;
 pub mod laws;
 mod play;
+mod receive_fault;
 mod refusal;
 mod response;
 mod stream;
@@ -15,6 +16,7 @@ pub use io_ends::{
     Moment, PartialWrite, PlayEnd, ServeFault, Served, WriteError, WriteStop, write_whole,
 };
 pub use play::{Played, play_all};
+pub use receive_fault::ReceiveFault;
 pub use request_parser::{ReadError, Route, WireFault, read_request};
 pub use response::{Answer, ServerError};
 pub use stream::{receive_request, serve_one};

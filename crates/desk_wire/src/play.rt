@@ -26,7 +26,7 @@ pub struct Played {
 }
 
 /// Answers the requests of `input` one after the other, all at the same `moment`, and writes the answers to
-/// `output`, until one of the ends of `PlayEnd`. At most `MAX_ANSWERED` requests are answered.
+/// `output`, until serving ends for one of the reasons in `PlayEnd`. At most 1,000,000 requests are answered.
 pub fn play_all<S: PlanStore, R: Read, W: Write>(
     alloc: Global,
     desk: &mut Desk<S>,

@@ -1,28 +1,26 @@
-//! Connections: requests read from a stream, and their answers written to one. A function that reads fails
-//! with `Read` if a read fails, and with `OutOfMemory` if memory runs out.
+//! Connections: requests read from a stream, and their answers written to one.
 
 ghost use Rattle.std.specs.Prelude.{◌≡◌, ◌<◌, ◌+◌, ◌++◌, [], length, take, IfErr, IfOk, IfSome, None};
 ghost use Rattle.std.specs.{Result.is_ok, Io.KnownBytes.Appends, Io.KnownBytes.Consumes, Io.KnownBytes.IsAtEnd};
 ghost use Rattle.request_parser.specs.Messages.{message_read};
 ghost use Rattle.desk_store.specs.Changes.{Remembers, IsHonest};
 ghost use Rattle.desk_run.specs.Verdicts.{world_of};
-ghost use Rattle.io_ends.specs.declared.serving.ServeFault.TheVariants as serve_fault;
 ghost use Rattle.desk_wire.specs.{Bytes.HasFailed, Bytes.HasStatus500, Given.IsServedKept};
 ghost use Rattle.desk_wire.specs.Streams.{passage, HasServed, IsTaken, Stops, IsCut, IsFront, byte_list, front_parsed, front_result, size_or_zero, with_body};
 
 use crate::answering::answer_request;
+use crate::receive_fault::ReceiveFault;
 use desk_run::Desk;
 use desk_store::PlanStore;
-use io_ends::{Moment, Reads, ServeFault, Served, read_within, write_whole};
+use io_ends::{
+    Moment, ReadError, ReadLimit, ServeFault, Served, read_up_to, read_within, write_whole,
+};
 use request_parser::{Front, HEAD_ROOM, Message, WireFault, is_ended, read_front};
 use std::alloc::Global;
 use std::io::{Read, Write};
 
-/// The maximum number of reads for one request, interrupted ones included.
+// The maximum number of reads for one request, interrupted ones included.
 const MAX_READS: u32 = 200_000;
-
-/// The maximum number of bytes of a body that are read at once.
-const CHUNK: usize = 4_096;
 
 /// Reads one request from `input`, carries it out at `moment`, and writes the answer to `output`; or returns
 /// `End` if the input has ended. The head is read byte by byte, so that nothing after the request is
@@ -47,13 +45,13 @@ pub fn serve_one<S: PlanStore, R: Read, W: Write>(
     ensures cause { IfOk result (λ served. HasStatus500 served → HasFailed (Appends (W.contents output.old)
         (W.contents output.new)) (S.faults desk.old.store) (S.faults desk.new.store)) }
 {
-    let mut reads = Reads::none();
-    let text = receive_head(alloc, input, &mut reads)?;
+    let mut limit = ReadLimit::total(MAX_READS);
+    let text = receive_head(alloc, input, &mut limit)?;
     if text.is_empty() {
         return Ok(Served::End);
     }
     let front = parse_front(&text);
-    let body = receive_body(alloc, input, body_size(&front), &mut reads)?;
+    let body = receive_body(alloc, input, body_size(&front), &mut limit)?;
     let request = attach_body(front, &body);
     let answer = answer_request(alloc, desk, moment, &request)?;
     write_whole(output, &answer.bytes)?;
@@ -65,29 +63,21 @@ pub fn serve_one<S: PlanStore, R: Read, W: Write>(
 ///
 /// # Errors
 ///
-/// `CutShort`, `Read` and `OutOfMemory`, as `ServeFault` says.
-pub fn receive_request<R: Read>(alloc: Global, input: &mut R) -> Result<Vec<u8>, ServeFault>
+/// Those of `ReceiveFault`.
+pub fn receive_request<R: Read>(alloc: Global, input: &mut R) -> Result<Vec<u8>, ReceiveFault<R>>
     ensures taken { IfOk result (λ request. 0 < length request.items
         → IsTaken (R.remaining input.old) (R.remaining input.new) request.items) }
     ensures end { IfOk result (λ request. request.items ≡ [] → IsAtEnd (R.remaining input.old)) }
     ensures fault { IfErr result (Stops (IfSome (R.remaining input.old) IsCut)) }
 {
-    let mut reads = Reads::none();
-    let head = receive_head(alloc, input, &mut reads)?;
-    if head.is_empty() {
-        return Ok(head);
+    let mut limit = ReadLimit::total(MAX_READS);
+    let mut request = receive_head(alloc, input, &mut limit)?;
+    if request.is_empty() {
+        return Ok(request);
     }
-    let body = receive_body(alloc, input, body_size(&parse_front(&head)), &mut reads)?;
-    append_body(head, &body)
-}
-
-// The bytes of `head`, and then those of `body`. It fails only if memory runs out.
-fn append_body(mut head: Vec<u8>, body: &[u8]) -> Result<Vec<u8>, ServeFault>
-    ensures ok { IfOk result (λ whole. whole.items ≡ head.items ++ body.now) }
-    ensures err { IfErr result (λ fault. fault ≡ serve_fault.OutOfMemory) }
-{
-    head.extend_from_slice(body)?;
-    Ok(head)
+    let body = receive_body(alloc, input, body_size(&parse_front(&request)), &mut limit)?;
+    request.extend_from_slice(&body)?;
+    Ok(request)
 }
 
 // The result of serving `request`, which was answered with `status`: it is framed if it could be split into
@@ -134,12 +124,12 @@ fn attach_body<'t>(
 }
 
 // Reads a head byte by byte, up to its end or to `HEAD_ROOM` bytes. It is empty if the input has ended.
-// `CutShort` if the input ends inside it. `reads` are the reads that were made for the request.
+// `CutShort` if the input ends inside it. `limit` is for the reads of the whole request.
 fn receive_head<R: Read>(
     alloc: Global,
     input: &mut R,
-    reads: &mut Reads,
-) -> Result<Vec<u8>, ServeFault>
+    limit: &mut ReadLimit<R>,
+) -> Result<Vec<u8>, ReceiveFault<R>>
     ensures taken { IfOk result (λ text.
         Consumes (R.remaining input.old) (R.remaining input.new) text.items) }
     ensures front { IfOk result (λ text. 0 < length text.items → IsFront text.items) }
@@ -151,11 +141,11 @@ fn receive_head<R: Read>(
         if is_ended(&text) {
             return Ok(text);
         }
-        let Some(byte) = receive_byte(input, reads)? else {
+        let Some(byte) = receive_byte(input, limit)? else {
             return if text.is_empty() {
                 Ok(text)
             } else {
-                Err(ServeFault::CutShort)
+                Err(ReceiveFault::CutShort)
             };
         };
         text.extend_from_slice(&[byte])?;
@@ -163,46 +153,36 @@ fn receive_head<R: Read>(
     Ok(text)
 }
 
-// The next byte of `input`. None if the input has ended. `reads` are the reads that were made for the
-// request.
-fn receive_byte<R: Read>(input: &mut R, reads: &mut Reads) -> Result<Option<u8>, ServeFault>
+// The next byte of `input`. None if the input has ended. `limit` is for the reads of the whole request.
+fn receive_byte<R: Read>(
+    input: &mut R,
+    limit: &mut ReadLimit<R>,
+) -> Result<Option<u8>, ReadError<R>>
     ensures taken { IfOk result (λ byte.
         Consumes (R.remaining input.old) (R.remaining input.new) (byte_list byte)) }
     ensures end { IfOk result (λ byte. byte ≡ None → IsAtEnd (R.remaining input.new)) }
-    ensures fault { IfErr result (λ f. f ≡ serve_fault.Read) }
 {
     let mut room = [0u8];
-    let count = read_within(input, &mut room, MAX_READS, reads)?;
+    let count = read_within(input, &mut room, limit)?;
     Ok((count > 0).then_some(room[0]))
 }
 
-// Reads a body of `size` bytes, in at most `size` reads that bring a byte or more. `CutShort` if the input
-// ends before. `reads` are the reads that were made for the request.
+// Reads a body of `size` bytes. `CutShort` if the input ends before. `limit` is for the reads of the whole
+// request.
 fn receive_body<R: Read>(
     alloc: Global,
     input: &mut R,
     size: u64,
-    reads: &mut Reads,
-) -> Result<Vec<u8>, ServeFault>
+    limit: &mut ReadLimit<R>,
+) -> Result<Vec<u8>, ReceiveFault<R>>
     ensures taken { IfOk result (λ body.
         Consumes (R.remaining input.old) (R.remaining input.new) body.items) }
     ensures size { IfOk result (λ body. length body.items ≡ size) }
     ensures fault { IfErr result (Stops (IfSome (R.remaining input.old) (λ rest. length rest < size))) }
 {
-    let mut body = Vec::new(alloc);
-    let mut chunk = [0u8; CHUNK];
-    let mut left = size;
-    for _ in 0..size {
-        if left == 0 {
-            return Ok(body);
-        }
-        let room = left.min(CHUNK as u64) as usize;
-        let count = read_within(input, &mut chunk[..room], MAX_READS, reads)?;
-        if count == 0 {
-            return Err(ServeFault::CutShort);
-        }
-        body.extend_from_slice(&chunk[..count])?;
-        left -= count as u64;
+    let body = read_up_to(alloc, input, size, limit)?;
+    if (body.len() as u64) < size {
+        return Err(ReceiveFault::CutShort);
     }
     Ok(body)
 }

@@ -13,7 +13,7 @@ pub struct Moment {
 }
 
 impl Moment {
-    /// The moment of a Unix second, or `None` if `second` is out of this range.
+    /// The moment of the Unix second `second`, or `None` if that is out of the range of a `Moment`.
     pub fn try_new(second: i64) -> Option<Moment>
         ensures some { IfSome result (λ moment. moment.second ≡ second) }
         ensures none { result ≡ None → IsMoment second → ⊥ }

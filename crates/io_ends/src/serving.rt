@@ -3,7 +3,6 @@
 ghost use Rattle.std.specs.Prelude.{◌≡◌};
 ghost use Rattle.io_ends.specs.declared.serving.ServeFault.TheVariants as serve_fault;
 
-use crate::reads::ReadError;
 use crate::writing::{PartialWrite, WriteError};
 use std::alloc::AllocError;
 use std::error::Error;
@@ -52,15 +51,6 @@ impl fmt::Display for ServeFault {
 }
 
 impl Error for ServeFault {}
-
-impl<R> From<ReadError<R>> for ServeFault {
-    ghost from_gives = { λ _ e. e ≡ serve_fault.Read };
-
-    // A read failed, or the request took as many as are allowed.
-    fn from(_error: ReadError<R>) -> ServeFault {
-        ServeFault::Read
-    }
-}
 
 impl<W> From<WriteError<W>> for ServeFault {
     ghost from_gives = { λ error e. e ≡ serve_fault.Write error.fault };

@@ -61,7 +61,7 @@ impl Writes {
 }
 
 // Calls `write` once with `bytes`, and adds the call to `writes` even if it fails. Returns how many of the
-// bytes were taken.
+// bytes were taken. The call before it must have passed, and the count must have room for one more.
 pub(crate) fn write_counted<W: Write>(
     output: &mut W,
     bytes: &[u8],

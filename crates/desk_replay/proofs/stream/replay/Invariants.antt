@@ -1,4 +1,4 @@
-use Rattle.std.proofs.Common.{◌≤◌}
+use Rattle.std.proofs.Common.{◌≤◌, ◌^◌, ◌-◌}
 use Rattle.desk_store.specs.Changes.{IsHonest}
 use Rattle.desk_run.specs.Verdicts.{world_of}
 use Rattle.desk_wire.specs.Streams.{course}
@@ -7,8 +7,8 @@ use Rattle.desk_replay.specs.Running.{AreEntriesPlayed}
 use Rattle.desk_replay.proofs.stream.replay.Given as goal
 
 -- the entries so far are played
-abbrev pub invariant-loop : goal.invariant-loop
-invariant-loop g l =
+abbrev pub invariant-loop-place : goal.invariant-loop-place
+invariant-loop-place g l =
     record {
       played : AreEntriesPlayed (IsHonest (g.S.PlanStore.doubt l.desk.store)) l.place
           (course (g.R.Read.remaining l.fn.input) (g.R.Read.remaining l.input))
@@ -18,3 +18,7 @@ invariant-loop g l =
       counted : g.S.PlanStore.faults l.fn.desk.store ≤ g.S.PlanStore.faults l.desk.store;
       shield : g.S.PlanStore.is_shielded l.fn.desk.store → g.S.PlanStore.is_shielded l.desk.store;
     }
+
+-- each entry has a byte or more
+abbrev pub decreases-loop-place : goal.decreases-loop-place
+decreases-loop-place g l = 2 ^ 64 - 1 - l.place
