@@ -1,10 +1,10 @@
 -- What a loop over slots comes to, from one slot on.
-use Rattle.std.proofs.Common.{◌≡◌, ◌<◌, ◌≤◌, ◌+◌, ◌-◌, ℕ, suc, Bool, true, false, List, ◌++◌, drop, length, take, length-append, IfOk, IfSome, OnOk, Result, Ok, Err, Option, None, Some, is_some, option_and_then, if◌then◌else◌, ◌&&◌, ap, arith, refl, sym, subst, ◌∙◌}
+use Rattle.std.proofs.Common.{◌≡◌, ◌↔◌, ◌<◌, ◌≤◌, ◌+◌, ◌-◌, ℕ, suc, Bool, true, false, List, ◌++◌, drop, length, take, length-append, IfOk, IfSome, OnOk, Result, Ok, Err, Option, None, Some, is_some, IsTrue, option_and_then, if◌then◌else◌, ◌&&◌, ap, arith, refl, sym, subst, ◌∙◌}
 use Rattle.std.proofs.lemmas.List.{drop_at, get_or_append_left, take_at}
 use Rattle.sqlite_wal.specs.PageSize.{IsPageSize, size_in_file}
 use Rattle.std.specs.Fmt.{option_append}
 use Rattle.std.specs.Io.KnownBytes.{Appends, Consumes}
-use Rattle.db_file.specs.Orders.{has_checksum_space, has_other_order, mended, ordered, ordered_file, ordered_page, with_sums, are_moved, is_moved_by_name, is_slot_named, placed, placed_by_name, slot_from}
+use Rattle.db_file.specs.Orders.{HasOtherOrder, has_checksum_space, has_other_order, mended, ordered, ordered_file, ordered_page, with_sums, are_moved, is_moved_by_name, is_slot_named, placed, placed_by_name, slot_from}
 
 less_one : (n k : ℕ) → k < n → n - k ≡ suc (n - (k + 1))
 less_one n k less = omega (arith, less)
@@ -168,13 +168,16 @@ file_reported (Ok it) (Some bytes) (Some rest) header size took says named repor
     reported ∙ ap (λ p. is_some (ordered p))
     (ap (take size) (sym took) ∙ ap (λ n. take n bytes) (named ∙ sym says))
 
--- a file that says no size of its pages
-pub is_sized : {E : Type 0} (done : Result Bool E) (known : Option (List ℕ)) (header : List ℕ)
+-- with the size of its pages
+pub order_said : {E : Type 0} (done : Result Bool E) (known : Option (List ℕ)) (header : List ℕ)
     → IfSome known (λ bytes. size_in_file bytes ≡ size_in_file header) → IsPageSize (size_in_file header)
-    → IfOk done (λ reported. IfSome known (λ bytes. ¬ IsPageSize (size_in_file bytes) → reported ≡ false))
-is_sized (Err e) known header says is = tt
-is_sized (Ok reported) None header says is = tt
-is_sized (Ok reported) (Some bytes) header says is = λ none. absurd (none (subst IsPageSize (sym says) is))
+    → IfOk done (λ is. IfSome known (λ bytes. IsPageSize (size_in_file bytes) → is ≡ has_other_order bytes))
+    → IfOk done (λ is. IfSome known (λ bytes. IsTrue is ↔ HasOtherOrder bytes))
+order_said (Err e) known header says sized given = tt
+order_said (Ok is) None header says sized given = tt
+order_said (Ok is) (Some bytes) header says sized given =
+    let here : IsPageSize (size_in_file bytes) = subst IsPageSize (sym says) sized in
+    ((λ is_true. (here, sym (given here) ∙ is_true)), (λ has. given here ∙ has.1))
 
 -- ---- a file that is copied as its header says
 

@@ -59,6 +59,16 @@ bad_checksums_in_pages size (suc n) bytes =
 abbrev pub bad_checksums_in : ℕ → List ℕ → ℕ
 bad_checksums_in size bytes = bad_checksums_in_pages size (length bytes / size) bytes
 
+-- the pages of a file have checksums: its header says so, and names their size
+abbrev pub HasChecksums : List ℕ → Type 0
+HasChecksums bytes = IsTrue (has_checksum_space bytes) × IsPageSize (size_in_file bytes)
+
+-- how many pages of a file of so many bytes end with a wrong checksum; None if they have no checksums
+abbrev pub IsBadCount : ℕ → List ℕ → Option ℕ → Type 0
+IsBadCount len bytes None = ¬ HasChecksums bytes
+IsBadCount len bytes (Some count) = HasChecksums bytes
+    × (length bytes ≡ len → count ≡ bad_checksums_in (size_in_file bytes) bytes)
+
 -- all whole pages of a file, each with the right checksum
 abbrev pub checksummed_file : ℕ → List ℕ → List ℕ
 checksummed_file size bytes = checksummed_pages size (length bytes / size) bytes
@@ -213,6 +223,10 @@ ordered page = if is_in_other_order page
 -- a file's first page lists them in an order that is neither canonical nor packed
 abbrev pub has_other_order : List ℕ → Bool
 has_other_order bytes = is_some (ordered (take (size_in_file bytes) bytes))
+
+-- and its header names the size of its pages
+abbrev pub HasOtherOrder : List ℕ → Type 0
+HasOtherOrder bytes = IsPageSize (size_in_file bytes) × IsTrue (has_other_order bytes)
 
 -- the page in canonical order, if it is in another; else the page as it is
 abbrev pub ordered_page : List ℕ → List ℕ

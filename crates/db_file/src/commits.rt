@@ -8,7 +8,7 @@ use sqlite_disk::{Disk, Files};
 use sqlite_wal::{probe_frames, probe_page_size};
 use std::alloc::Global;
 
-/// Whether recovery finds a commit in the WAL of the database in `files`. Nothing is written. `alloc` holds
+/// Whether recovery finds a commit in the WAL of the database in `files`. Nothing is written. `alloc` is for
 /// the list of the pages found.
 ///
 /// `None` if that can't be known: the files name no valid page size, one of them can't be read, or memory ran

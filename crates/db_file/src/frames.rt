@@ -1,5 +1,6 @@
-//! The frames of a WAL. A frame has at 0 the number of its page, at 4 the number of the database's pages if
-//! it ends a commit (else 0), at 8 the salts, at 16 its checksum, and at 24 its page.
+//! The frames of a WAL. The fields of a frame, by their offsets in bytes: at 0 the number of its page, at 4
+//! how many pages the database has if the frame ends a commit (else 0), at 8 the salts of the WAL, at 16 its
+//! checksum, and at 24 its page.
 
 ghost use Rattle.std.specs.Prelude.{◌≡◌, ◌↔◌, ◌≤◌, if◌then◌else◌, length, IsTrue};
 ghost use Rattle.sqlite_wal.specs.Format.{IsFrame};

@@ -28,7 +28,7 @@ pub enum WalState {
 /// Why a WAL wasn't checked to its end.
 #[derive(Clone, Copy, Debug, PartialEq, Eq)]
 pub enum WalError {
-    /// The header or a frame wasn't read: the last of these reads failed, or there were 2^32 - 1 of them.
+    /// The last of these reads failed, or 2^32 - 1 reads weren't enough for the header or for one frame.
     Unread(Reads),
     /// It has 2^64 bytes or more.
     Endless,
@@ -45,13 +45,12 @@ impl<R> From<ReadError<R>> for WalError {
     }
 }
 
-/// Checks whether a WAL is damaged: recovery stops at a frame, and two or more commits end from there on. One
-/// frame is read at a time.
+/// Checks whether `log`, a WAL from its first byte on, is damaged: recovery stops at a frame, and two or more
+/// commits end from there on. One frame is read at a time.
 ///
 /// # Errors
 ///
-/// `Unread` if a read failed, or 2^32 - 1 reads brought no whole frame; `Endless` if there are 2^64 bytes or
-/// more.
+/// Those of `WalError`.
 pub fn check_wal<R: Read>(log: &mut R) -> Result<WalState, WalError>
     ensures value { IfOk result (λ verdict. IfSome (R.remaining log.old) (λ bytes. IsStateOf bytes verdict)) }
     ensures fault { IfErr result (IsUnchecked (R.remaining log.old)) }
@@ -123,8 +122,8 @@ fn find_stop<R: Read>(
     Err(WalError::Endless)
 }
 
-// How many commits end from the frame in the buffer `frame` on, which was read last. The count stops at the
-// first frame without the salts of the header `head`.
+// How many commits end with the frame in the buffer `frame`, which was read last, or with one after it. The
+// count stops at the first frame without the salts of the header `head`.
 fn count_commits<R: Read>(
     log: &mut R,
     head: &[u8; HEADER],
@@ -149,7 +148,7 @@ fn count_commits<R: Read>(
     Err(WalError::Endless)
 }
 
-// Reads the next frame into `frame`; returns false if the WAL ends within it.
+// Reads the next frame into `frame`; returns false if the WAL ends before the frame does.
 fn next_frame<R: Read>(log: &mut R, frame: &mut [u8]) -> Result<bool, ReadError<R>>
     ensures value { (page n : ℕ) (bytes : List ℕ) → length frame.old ≡ 24 + page
         → IsBefore page bytes n (R.remaining log.old)

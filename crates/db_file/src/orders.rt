@@ -1,18 +1,18 @@
 //! The order in which a database file lists its tables and indexes: that of the rows of the schema table,
 //! which are on the first page. The canonical order is that in which the desk makes them, the packed order
 //! that in which SQLite's VACUUM leaves them. The first page has the file's header first. Its page header
-//! follows at byte 100, and the pointers to the cells of its rows at byte 108, two bytes for each slot.
+//! follows at byte 100, and the slots at byte 108: each points with two bytes to the cell of a row. Places and
+//! slots are counted from 0.
 
-ghost use Rattle.std.specs.Prelude.{◌≡◌, ◌≤◌, ◌<◌, ◌++◌, length, take, is_some, IfOk, IfSome, IsErr, None, OnOk, Some, false, true};
+ghost use Rattle.std.specs.Prelude.{◌≡◌, ◌↔◌, ◌≤◌, ◌<◌, ◌++◌, length, take, is_some, IfOk, IfSome, IsTrue, None, OnOk, Some, false, true};
 ghost use Rattle.std.specs.{Fmt.option_append, Io.KnownBytes.Appends};
 ghost use Rattle.sqlite_wal.specs.PageSize.{IsPageSize, bytes_of, size_in_file};
-ghost use Rattle.db_file.specs.Orders.{has_checksum_space as has_checksums, IsFirstPage};
+ghost use Rattle.db_file.specs.Orders.{has_checksum_space as has_checksums, HasOtherOrder, IsFirstPage};
 ghost use Rattle.db_file.specs.Orders as spec;
 
 use crate::db_header::{HEADER, MAX_PAGE, byte, has_checksum_space, page_size_in};
-use crate::sums::{copy_bytes, copy_checksummed, open_regular};
+use crate::sums::{copy_bytes, copy_checksummed};
 use sqlite_wal::PageSize;
-use std::fs::File;
 use std::io::{self, ErrorKind, Read, Write};
 
 // The type of a page that is a leaf of a table's tree.
@@ -291,7 +291,10 @@ fn try_reorder(old: &[u8], page: &mut [u8]) -> bool
     ensures left { result ≡ false → spec.ordered old.now ≡ None }
 {
     let count = count_of(old);
-    is_in_other_order(old) && place_rows(old, count, page) && are_moved(false, old, page, count)
+    if !is_in_other_order(old) || !place_rows(old, count, page) {
+        return false;
+    }
+    are_moved(false, old, page, count)
 }
 
 // Whether a first page lists the schema's tables and indexes, or the first few of them, in an order that is
@@ -335,31 +338,15 @@ fn read_in_order<R: Read>(file: &mut R, page: &mut [u8]) -> io::Result<()>
     Ok(())
 }
 
-/// Whether the file at `path` lists the schema's tables and indexes, or the first few of them, in an order
-/// that is neither canonical nor packed; false if it can't be read. A newer first page in a WAL isn't seen.
-pub fn has_other_order(rt: &HostRuntime, path: &str) -> bool {
-    is_disordered_if_opened(open_regular(rt, path))
-}
-
-// Whether the file `opened` lists its tables in an order that is neither canonical nor packed; false if it
-// wasn't opened, can't be read, or names no valid page size.
-fn is_disordered_if_opened<R: Read + Drop>(opened: io::Result<R>) -> bool
-    ensures unread { IsErr opened → result ≡ false }
-    ensures reported { IfOk opened (λ file. IfSome (R.remaining file) (λ bytes.
-        IsPageSize (size_in_file bytes) → result ≡ true → spec.has_other_order bytes ≡ true)) }
-    ensures no_page_size { IfOk opened (λ file. IfSome (R.remaining file) (λ bytes.
-        ¬ IsPageSize (size_in_file bytes) → result ≡ false)) }
-{
-    opened.is_ok_and(|mut file| matches!(is_file_disordered(&mut file), Ok(true)))
-}
-
-// Whether a file lists the schema's tables and indexes, or the first few of them, in another order; false if
-// its header names no valid page size.
-fn is_file_disordered<R: Read>(file: &mut R) -> io::Result<bool>
-    ensures said { IfOk result (λ is. IfSome (R.remaining file.old) (λ bytes.
-        IsPageSize (size_in_file bytes) → is ≡ spec.has_other_order bytes)) }
-    ensures none { IfOk result (λ is. IfSome (R.remaining file.old) (λ bytes.
-        ¬ IsPageSize (size_in_file bytes) → is ≡ false)) }
+/// Whether a database file lists the schema's tables and indexes, or the first few of them, in an order that
+/// is neither canonical nor packed; false if its header names no valid page size. A newer first page in a WAL
+/// isn't seen.
+///
+/// # Errors
+///
+/// The error of the read that failed.
+pub fn has_other_order<R: Read>(file: &mut R) -> io::Result<bool>
+    ensures { IfOk result (λ has. IfSome (R.remaining file.old) (λ bytes. IsTrue has ↔ HasOtherOrder bytes)) }
 {
     let mut header = [0u8; HEADER];
     file.read_exact(&mut header)?;
@@ -402,22 +389,14 @@ fn read_page<R: Read>(
     whole.read_exact(page)
 }
 
-/// Copies a database file, repaired: its first page is reordered as by `order_page`, and the checksum of each
-/// page is set, if pages have checksums. Nothing else is opened, so that the caller keeps its locks on the
-/// file.
+/// Copies a database file of `len` bytes to `output`, repaired: its first page is reordered as by
+/// `order_page`, and the checksum of each page is set, if pages have checksums.
 ///
 /// # Errors
 ///
 /// The error of the read or write that failed; `Unsupported` if the header names no valid page size. What was
 /// written until then stays.
-pub fn copy_mended<W: Write>(file: &mut File, output: &mut W) -> io::Result<()> {
-    let len = file.metadata()?.len();
-    copy_by_header(file, output, len)
-}
-
-// Copies a file of `len` bytes to `output`, repaired as by `copy_mended`. Its header says how long its
-// pages are, and whether they have checksums.
-fn copy_by_header<R: Read, W: Write>(file: &mut R, output: &mut W, len: u64) -> io::Result<()>
+pub fn copy_mended<R: Read, W: Write>(file: &mut R, output: &mut W, len: u64) -> io::Result<()>
     ensures mended { OnOk result (IfSome (R.remaining file.old) (λ bytes. length bytes ≡ len →
         Appends (W.contents output.old) (W.contents output.new)
         (spec.mended (has_checksums bytes) (size_in_file bytes) bytes))) }

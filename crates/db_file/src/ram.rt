@@ -139,7 +139,7 @@ fn resize(file: &mut Vec<u8>, len: usize) -> Result<(), AllocError>
 }
 
 // Writes `bytes` from index `at` on. If the file ends before, it is extended, and a gap is filled with zeros.
-// Fails if memory runs out, or no index is as large as the end.
+// Fails if memory runs out, or if the bytes would end past the greatest index.
 fn overwrite(file: &mut Vec<u8>, at: usize, bytes: &[u8]) -> Result<(), AllocError>
     ensures written { OnOk result (Holds file.new.items at bytes.now) }
     ensures others { Torn at (length bytes.now) file.old.items file.new.items }

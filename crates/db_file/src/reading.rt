@@ -5,7 +5,7 @@ ghost use Rattle.std.specs.Io.KnownBytes.{Consumes, IsAtEnd};
 ghost use Rattle.io_ends.specs.Reading.{HaveGivenUp};
 ghost use Rattle.db_file.specs.Wal.{most_reads};
 
-use io_ends::{ReadError, Reads, read_within};
+use io_ends::{ReadError, ReadLimit, read_within};
 use std::io::Read;
 
 // The most calls of `read` that one call of `read_whole` makes.
@@ -16,7 +16,7 @@ const MAX_READS: u32 = u32::MAX;
 ///
 /// # Errors
 ///
-/// `ReadError` if a read failed, or if 2^32 - 1 of them weren't enough; it has the reads so far.
+/// `ReadError` if a read failed, or if 2^32 - 1 of them weren't enough.
 pub fn read_whole<R: Read>(input: &mut R, room: &mut [u8]) -> Result<bool, ReadError<R>>
     ensures whole { IfOk result (λ is_whole. is_whole ≡ true →
         Consumes (R.remaining input.old) (R.remaining input.new) room.new) }
@@ -29,7 +29,7 @@ pub fn read_whole<R: Read>(input: &mut R, room: &mut [u8]) -> Result<bool, ReadE
 }
 
 // Reads into `room` until it is full or the input ends; returns how many bytes were read. It fails as
-// `read_whole` does. Each round reads at least one byte, so as many rounds as bytes are enough.
+// `read_whole` does.
 fn fill<R: Read>(input: &mut R, room: &mut [u8]) -> Result<usize, ReadError<R>>
     ensures within { IfOk result (λ count. count ≤ length room.new) }
     ensures taken { IfOk result (λ count.
@@ -38,14 +38,11 @@ fn fill<R: Read>(input: &mut R, room: &mut [u8]) -> Result<usize, ReadError<R>>
     ensures fault { IfErr result (λ error. HaveGivenUp most_reads error.reads) }
 {
     let mut count = 0;
-    let mut reads = Reads::none();
-    for _ in 0..room.len() {
-        if count == room.len() {
-            return Ok(count);
-        }
-        let more = read_within(input, &mut room[count..], MAX_READS, &mut reads)?;
+    let mut limit = ReadLimit::total(MAX_READS);
+    while count < room.len() {
+        let more = read_within(input, &mut room[count..], &mut limit)?;
         if more == 0 {
-            return Ok(count);
+            break;
         }
         count += more;
     }

@@ -1,90 +1,47 @@
 //! The checksums of a database's pages, as SQLite's cksumvfs has them: the last eight bytes of each page. The
 //! desk updates them when it writes a page, and sqlite3 doesn't.
 
-ghost use Rattle.std.specs.Prelude.{◌≡◌, ◌≤◌, drop, length, None, Some, take, true, IfNone, IfOk, IfSome, IsErr, IsErrAnd, IsOk, OnOk};
-ghost use Rattle.std.specs.{Fs.IsFile, Fs.file_type, Io.KnownBytes.Appends, IoError.error_kind};
-ghost use Rattle.std.specs.declared.io.ErrorKind.TheVariants.{Unsupported};
-ghost use Rattle.sqlite_wal.specs.PageSize.{IsPageSize, bytes_of, size_in_file};
-ghost use Rattle.db_file.specs.Orders.{has_checksum_space};
+ghost use Rattle.std.specs.Prelude.{◌≡◌, ◌↔◌, ◌≤◌, drop, length, Some, take, IfOk, IfSome, IsTrue, OnOk};
+ghost use Rattle.std.specs.Io.KnownBytes.{Appends};
+ghost use Rattle.sqlite_wal.specs.PageSize.{bytes_of};
+ghost use Rattle.db_file.specs.Orders.{HasChecksums, IsBadCount};
 ghost use Rattle.db_file.specs.Orders as spec;
 
 use crate::db_header::{HEADER, MAX_PAGE, SUM, has_checksum_space, page_size_in};
 use sqlite_wal::{PageSize, checksum_of};
-use std::fs::{self, File, Metadata};
 use std::io::{self, ErrorKind, Read, Write};
 
-/// Whether the pages of the database at `path` have checksums; false if it can't be read, or names no valid
-/// page size.
-pub fn has_checksums(rt: &HostRuntime, path: &str) -> bool {
-    checksummed_size(open_regular(rt, path)).is_some()
-}
-
-/// How many pages of the database at `path` have a wrong checksum. None if its pages have no checksums, or
-/// can't be read.
-pub fn count_bad_checksums(rt: &HostRuntime, path: &str) -> Option<u64> {
-    let size = checksummed_size(open_regular(rt, path))?;
-    let len = fs::metadata(rt, path).ok()?.len();
-    count_bad_if_opened(File::open(rt, path), size, len)
-}
-
-// How many pages of `size` bytes have a wrong checksum in the file `opened`, which has `len` bytes. None if
-// it wasn't opened, or can't be read.
-fn count_bad_if_opened<R: Read + Drop>(
-    opened: io::Result<R>,
-    size: PageSize,
-    len: u64,
-) -> Option<u64>
-    ensures unread { IsErr opened → result ≡ None }
-    ensures counted { IfSome result (λ bad_count. IfOk opened (λ file. IfSome (R.remaining file) (λ bytes.
-        length bytes ≡ len → bad_count ≡ spec.bad_checksums_in (bytes_of size) bytes))) }
-{
-    count_bad_pages(&mut opened.ok()?, size, len).ok()
-}
-
-// The page size of the file `opened`, if its pages have checksums. None also if it wasn't opened, can't be
-// read, or names no valid page size.
-fn checksummed_size<R: Read + Drop>(opened: io::Result<R>) -> Option<PageSize>
-    ensures unread { IsErr opened → result ≡ None }
-    ensures sized { IfSome result (λ size. IfOk opened (λ file. IfSome (R.remaining file) (λ bytes.
-        (has_checksum_space bytes ≡ true) × (bytes_of size ≡ size_in_file bytes)))) }
-{
-    read_checksummed_size(&mut opened.ok()?).ok()?
-}
-
-// Reads the header of a database; returns its page size, if that is valid and the pages have checksums.
-fn read_checksummed_size<R: Read>(file: &mut R) -> io::Result<Option<PageSize>>
-    ensures some { IfOk result (λ found. IfSome found (λ size. IfSome (R.remaining file.old) (λ bytes.
-        (has_checksum_space bytes ≡ true) × (bytes_of size ≡ size_in_file bytes)))) }
-    ensures none { IfOk result (λ found. IfNone found (IfSome (R.remaining file.old) (λ bytes.
-        has_checksum_space bytes ≡ true → ¬ IsPageSize (size_in_file bytes)))) }
-{
-    let mut header = [0u8; HEADER];
-    file.read_exact(&mut header)?;
-    if !has_checksum_space(&header) {
-        return Ok(None);
-    }
-    Ok(page_size_in(&header))
-}
-
-/// Opens the file at `path` for reading, if it is a regular file: to open a pipe would wait for a writer.
+/// Whether the pages of a database have checksums; false if its header names no valid page size.
 ///
 /// # Errors
 ///
-/// The system's error; `Unsupported` if it isn't a regular file.
-pub fn open_regular(rt: &HostRuntime, path: &str) -> io::Result<File> {
-    refuse_irregular(&fs::metadata(rt, path)?)?;
-    File::open(rt, path)
+/// The error of the read that failed.
+pub fn has_checksums<R: Read>(file: &mut R) -> io::Result<bool>
+    ensures { IfOk result (λ has. IfSome (R.remaining file.old) (λ bytes.
+        IsTrue has ↔ HasChecksums bytes)) }
+{
+    let mut header = [0u8; HEADER];
+    file.read_exact(&mut header)?;
+    Ok(has_checksum_space(&header) && page_size_in(&header).is_some())
 }
 
-// Fails with `Unsupported` if the metadata `found` isn't of a regular file.
-fn refuse_irregular(found: &Metadata) -> io::Result<()>
-    ensures file { IsFile (file_type found.now) → IsOk result }
-    ensures other { ¬ IsFile (file_type found.now) → IsErrAnd result (λ e. error_kind e ≡ Unsupported) }
+/// How many pages of a database of `len` bytes have a wrong checksum. `None` if its pages have no checksums,
+/// or its header names no valid page size.
+///
+/// # Errors
+///
+/// The error of the read that failed.
+pub fn count_bad_checksums<R: Read>(file: &mut R, len: u64) -> io::Result<Option<u64>>
+    ensures { IfOk result (λ found. IfSome (R.remaining file.old) (λ bytes. IsBadCount len bytes found)) }
 {
-    if found.is_file() {
-        Ok(())
-    } else {
-        Err(io::Error::from(ErrorKind::Unsupported))
+    let mut header = [0u8; HEADER];
+    file.read_exact(&mut header)?;
+    match page_size_in(&header) {
+        Some(size) if has_checksum_space(&header) => {
+            let mut whole = (&header[..]).chain(file);
+            Ok(Some(count_bad_pages(&mut whole, size, len)?))
+        }
+        _ => Ok(None),
     }
 }
 
@@ -126,7 +83,7 @@ fn copy_pages<R: Read, W: Write>(
     Ok(())
 }
 
-// Copies the next page to `output` with its checksum set. `page` is the buffer.
+// Copies the next page to `output` with its checksum set. `page` is the buffer, as long as a page.
 fn copy_page<R: Read, W: Write>(file: &mut R, output: &mut W, page: &mut [u8]) -> io::Result<()>
     requires { 8 ≤ length page.old }
     ensures length { length page.new ≡ length page.old }
@@ -167,7 +124,7 @@ fn count_bad_in<R: Read>(file: &mut R, size: PageSize, count: u64) -> io::Result
     Ok(bad_count)
 }
 
-// Reads the next page; returns 1 if it has a wrong checksum, else 0. `page` is the buffer.
+// Reads the next page; returns 1 if it has a wrong checksum, else 0. `page` is the buffer, as long as a page.
 fn count_bad_page<R: Read>(file: &mut R, page: &mut [u8]) -> io::Result<u64>
     requires { 8 ≤ length page.old }
     ensures length { length page.new ≡ length page.old }

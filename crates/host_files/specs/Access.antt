@@ -1,8 +1,9 @@
 -- What a machine answers about its files: what is found at a path, and what a command leaves.
-use Rattle.std.specs.Prelude.{◌≡◌, ◌↔◌, ℕ, Bool, IsTrue, List, Option, None, Some, Result, Ok, Err, ◌≢◌, ◌⊎◌, ⊤, ◌==◌, true, false, if◌then◌else◌, [], ◌∷◌, ◌++◌, codes, bytes_eq, nat_eq, option_map, is_ok, not}
+use Rattle.std.specs.Prelude.{◌≡◌, ◌↔◌, ℕ, Bool, IsTrue, List, Option, None, Some, Result, Ok, Err, ◌≢◌, ◌⊎◌, ⊤, ◌==◌, true, false, if◌then◌else◌, [], ◌∷◌, ◌++◌, codes, bytes_eq, nat_eq, option_map, is_ok, not, IfSome, IsSomeAnd}
 use Rattle.std.specs.declared.{io.ErrorKind.ErrorKind, fs.attrs.Metadata.Metadata}
 use Rattle.std.specs.{Fs.IsFile, Fs.file_type, Fs.metadata_len, List.starts_with}
 use Rattle.std.specs.declared.io.ErrorKind.TheVariants as kind
+use Rattle.db_file.specs.Orders.{HasChecksums, HasOtherOrder, IsBadCount}
 use Rattle.sqlite_std_file.specs.declared.pair.OpenError.{OpenError}
 use Rattle.sqlite_std_file.specs.declared.pair.OpenError.TheVariants as opening
 use Rattle.host_files.specs.{declared.files.Found.Found, declared.files.Identity.Identity, declared.state.Denial.Denial, declared.state.FileState.FileState, declared.state.Missing.Missing, declared.state.Start.Start, declared.state.Place.Place, declared.state.Next.Next, Naming.Failed, Naming.Follows, Naming.Steps, Naming.Tried}
@@ -290,3 +291,25 @@ is_empty_by (Err error) = false
 
 abbrev pub is_empty : Answers → List ℕ → Bool
 is_empty it path = is_empty_by (it.entry path)
+
+-- ==== What the answers of a machine, `it`, say of the pages of a database file
+-- how long what was found is, if it is a regular file
+abbrev pub regular_len : Result Found ErrorKind → Option ℕ
+regular_len (Ok found) = if found.is_file then Some found.len else None
+regular_len (Err error) = None
+
+-- a path leads to a regular file that can be read, and this holds of its length and its bytes, if they are known
+abbrev pub IsReadSo : Answers → List ℕ → (ℕ → List ℕ → Type 0) → Type 0
+IsReadSo it path says = (it.unread path ≡ None)
+    × IsSomeAnd (regular_len (it.found path)) (λ len. IfSome (it.bytes path) (says len))
+
+-- its pages have checksums, so many have wrong ones, or it lists its tables in an order that the desk doesn't
+-- read
+abbrev pub HasChecksumsAt : Answers → List ℕ → Type 0
+HasChecksumsAt it path = IsReadSo it path (λ len. HasChecksums)
+
+abbrev pub HasBadChecksums : Answers → List ℕ → ℕ → Type 0
+HasBadChecksums it path count = IsReadSo it path (λ len bytes. IsBadCount len bytes (Some count))
+
+abbrev pub HasOtherOrderAt : Answers → List ℕ → Type 0
+HasOtherOrderAt it path = IsReadSo it path (λ len. HasOtherOrder)

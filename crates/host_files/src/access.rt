@@ -1,10 +1,10 @@
-//! Why a file can't be opened or made, in the words of a report. It is found by looking at the path, not at
-//! the rows.
+//! Why a file can't be opened or made, in the words of a report. The cause is found by what is at the path and
+//! by the bytes of the file; no table is read.
 
 ghost use Rattle.std.specs.Prelude.{◌≡◌, IfSome, option_map};
 ghost use Rattle.desk_program.specs.Keeping.{bytes_written};
 ghost use Rattle.host_files.specs.Access as spec;
-ghost use Rattle.host_files.specs.{Access.IsCauseBy, Access.IsDenialText, Paths.OpensAtMost, Paths.steps_of, Naming.Reports, Naming.Free, Naming.TakesIfNone};
+ghost use Rattle.host_files.specs.{Access.HasBadChecksums, Access.IsCauseBy, Access.IsDenialText, Paths.OpensAtMost, Paths.steps_of, Naming.Reports, Naming.Free, Naming.TakesIfNone};
 
 use crate::files::{HostFiles, LocalHost};
 use crate::naming::{Folder, IN_USE, READ_ONLY, TAKEN, is_no_path};
@@ -63,7 +63,8 @@ pub fn report_refused_file<E: Write>(
 // How many pages of a file have wrong checksums, by the `state` that `probe` found. `None` if no page has,
 // if that can't be found out, or if the file isn't refused for its pages.
 fn bad_checksum_count<F: HostFiles>(files: &F, path: &str, state: FileState) -> Option<u64>
-    ensures { IfSome (F.answers files.now) (λ it. result ≡ spec.bad_checksum_count it path.now state) }
+    ensures answer { IfSome (F.answers files.now) (λ it. result ≡ spec.bad_checksum_count it path.now state) }
+    ensures counted { IfSome (F.answers files.now) (λ it. IfSome result (HasBadChecksums it path.now)) }
 {
     if !may_be_damaged(state) {
         return None;
@@ -104,8 +105,8 @@ fn cause_of<P: Folder>(folder: &mut P, path: &str, state: FileState) -> &'static
     folder.try_file(path).unwrap_or(refusal_text(state))
 }
 
-// Whether a command makes the file and nothing is at its path. (For a command that makes none, nothing there
-// is `Missing`.)
+// Whether nothing is at the path of a file that the command makes. (For a command that makes no file, that is
+// `Missing`.)
 fn is_free(state: FileState) -> bool
     ensures { result ≡ spec.is_free state }
 {

@@ -1,11 +1,11 @@
 //! What the program asks the operating system about files before it opens one. No contract says what the
 //! answers are: contracts of functions that use `HostFiles` say what follows from the answers.
 
-ghost use Rattle.std.specs.Prelude.{◌≡◌, ◌∷◌, [], ℕ, Err, IfOk, IfSome, List, MatchResult, None, Option, string_bytes};
+ghost use Rattle.std.specs.Prelude.{◌≡◌, ◌∷◌, [], ℕ, Err, IfOk, IfSome, IsTrue, List, MatchResult, None, Option, string_bytes};
 ghost use Rattle.std.specs.IoError.{error_kind};
 ghost use Rattle.desk_program.specs.Serving.{Grows};
 ghost use Rattle.host_files.specs.Access as spec;
-ghost use Rattle.host_files.specs.Access.{Answers, IsFoundAs, by_ok, error_of};
+ghost use Rattle.host_files.specs.Access.{Answers, HasBadChecksums, HasChecksumsAt, HasOtherOrderAt, IsFoundAs, by_ok, error_of};
 
 use crate::state::Denial;
 use db_file::{count_bad_checksums, has_other_order, takes_commit};
@@ -95,13 +95,15 @@ pub trait HostFiles {
     /// How many pages of a database have wrong checksums. `None` if its pages have no checksums, or can't
     /// be read.
     fn bad_checksums(&self, path: &str) -> Option<u64>
-        ensures { IfSome (answers self.now) (λ it. result ≡ it.bad_checksums path.now) };
+        ensures answer { IfSome (answers self.now) (λ it. result ≡ it.bad_checksums path.now) }
+        ensures counted { IfSome (answers self.now) (λ it. IfSome result (HasBadChecksums it path.now)) };
 
     /// Whether a database lists the tables and indexes of the schema, or the first few of them, in an order
     /// that the desk doesn't read: neither the canonical one nor that of a VACUUM. False if it can't be
     /// read.
     fn is_out_of_order(&self, path: &str) -> bool
-        ensures { IfSome (answers self.now) (λ it. result ≡ it.in_other_order path.now) };
+        ensures answer { IfSome (answers self.now) (λ it. result ≡ it.in_other_order path.now) }
+        ensures order { IfSome (answers self.now) (λ it. IsTrue result → HasOtherOrderAt it path.now) };
 
     /// Whether recovery applies a commit of the WAL of the file at a path; also true if that can't be found
     /// out. It applies none if the WAL was cut off within its first commit.
@@ -178,11 +180,15 @@ impl HostFiles for LocalHost<'_> {
     }
 
     fn bad_checksums(&self, path: &str) -> Option<u64> {
-        count_bad_checksums(self.rt, path)
+        let len = regular_len(self.find(path))?;
+        count_bad_checksums(&mut self.open(path).ok()?, len).ok()?
     }
 
     fn is_out_of_order(&self, path: &str) -> bool {
-        has_other_order(self.rt, path)
+        regular_len(self.find(path)).is_some()
+            && self
+                .open(path)
+                .is_ok_and(|mut file| matches!(has_other_order(&mut file), Ok(true)))
     }
 
     fn takes_commit(&self, path: &str) -> bool {
@@ -221,4 +227,27 @@ fn found_of(found: io::Result<Metadata>) -> Result<Found, ErrorKind>
             inode: found.ino(),
         },
     })
+}
+
+// The length in bytes of what was found at a path, if it is a regular file. Nothing else is opened to be read:
+// to open a pipe would wait for a writer.
+fn regular_len(found: Result<Found, ErrorKind>) -> Option<u64>
+    ensures { result ≡ spec.regular_len found }
+{
+    found
+        .ok()
+        .filter(|found| found.is_file)
+        .map(|found| found.len)
+}
+
+/// Whether the pages of the database at a path have checksums; false if it can't be read, or names no valid
+/// page size.
+pub fn has_checksums<F: HostFiles>(files: &F, path: &str) -> bool
+    ensures { IfSome (F.answers files.now) (λ it. IsTrue result → HasChecksumsAt it path.now) }
+{
+    regular_len(files.find(path)).is_some()
+        && files.open(path).is_ok_and(|mut file| matches!(
+            db_file::has_checksums(&mut file),
+            Ok(true)
+        ))
 }

@@ -39,9 +39,10 @@ pub trait Folder {
     fn is_free(&mut self, path: &str) -> bool
         ensures { Takes (course (steps self.old) (steps self.new)) result (Free path.now) };
 
-    /// Removes the file `part` and its WAL `log`, which an interrupted copy may have left; either may be
-    /// missing. Nothing is removed if one of them is the file `source` or no regular file, or if a program
-    /// has `part` open. Returns why they may still exist; `None` if neither does.
+    /// Removes what an interrupted copy may have left: the file at the path `part`, and its WAL at the path
+    /// `log`; either may be missing. `source` is the path of the file that is to be copied. Nothing is
+    /// removed if one of the two is that file or no regular file, or if a program has `part` open. Returns
+    /// why they may still exist; `None` if neither does.
     fn clear(&mut self, source: &str, part: &str, log: &str) -> Option<&'static str>
         ensures { TakesIfNone (course (steps self.old) (steps self.new)) result (Cleared part.now log.now) };
 

@@ -1,4 +1,5 @@
-//! Makes the scratch copy of a database file: repaired, or byte for byte together with its WAL.
+//! Makes the scratch copy of a database file, which is read in place of the file: repaired, or byte for byte
+//! together with its WAL.
 
 ghost use Rattle.std.specs.Prelude.{◌≡◌, IfErr, IfSome};
 ghost use Rattle.host_files.specs.Access as left;
@@ -13,7 +14,7 @@ use sqlite::Unknown;
 use sqlite_std_file::OpenError;
 use std::alloc::AllocError;
 use std::fs::{self, File, OpenOptions};
-use std::io::ErrorKind;
+use std::io::{self, ErrorKind};
 use std::os::unix::fs::OpenOptionsExt;
 
 /// Why a scratch copy can't be made.
@@ -92,7 +93,14 @@ fn write_mended(rt: &HostRuntime, source: &str, scratch: &str) -> Result<(), Scr
 {
     let mut file = File::open(rt, source).map_err(|error| source_fault(error.kind()))?;
     let mut made = new_file(rt, scratch)?;
-    copy_mended(&mut file, &mut made).map_err(|error| copy_fault(error.kind()))
+    copy_open_file(&mut file, &mut made).map_err(|error| copy_fault(error.kind()))
+}
+
+// Copies the open file `file` to `made`, repaired as by `copy_mended`. It fails with the error of the system's
+// call that failed, or as `copy_mended` does.
+fn copy_open_file(file: &mut File, made: &mut File) -> io::Result<()> {
+    let len = file.metadata()?.len();
+    copy_mended(file, made, len)
 }
 
 // Copies the file `source` and its WAL `log` to the free path `scratch` and its WAL. The originals are

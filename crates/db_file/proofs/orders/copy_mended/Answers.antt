@@ -1,7 +1,7 @@
 use Rattle.std.proofs.Common.{◌≡◌, length, refl, rules}
 use Rattle.sqlite_wal.specs.PageSize.{bytes_of}
 use Rattle.db_file.proofs.OrderLemmas.{copied_as_said, header_says, sized_as_said}
-use Rattle.db_file.proofs.orders.copy_by_header.Goals as goal
+use Rattle.db_file.proofs.orders.copy_mended.Goals as goal
 
 pub returns-in-Some-clause-mended : goal.returns-in-Some-clause-mended
 returns-in-Some-clause-mended g c =
