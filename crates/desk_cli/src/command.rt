@@ -2,7 +2,7 @@
 
 ghost use Rattle.std.specs.Prelude.{◌≡◌, IfOk, map};
 ghost use Rattle.clap.specs.{Simple.app_of, Simple.shape_of, Walk.rule_of};
-ghost use Rattle.desk_cli.specs.{Malformed.bare_rule, Malformed.rule_of_row, Malformed.shape_of_form, Grammar.line_shape};
+ghost use Rattle.desk_cli.specs.{Malformed.bare_rule, Malformed.rule_of_row, Malformed.shape_of_form};
 ghost use Rattle.desk_cli.specs.Grammar as spec;
 
 use crate::line::MAX_CONNECTIONS;
@@ -12,7 +12,8 @@ use desk_rules::terms::{MAX_SPANS, MAX_TOTAL_CELLS};
 use std::alloc::{AllocError, Global};
 use volume4d::MAX_SECOND;
 
-// The version, and the checksum of the toolchain's logic in which the program is proved.
+// The program's version, and the first digits of a checksum: that of the logic in which the program is
+// proved.
 const VERSION: &str = "2.0.0\nRattle logic dac8208d650f15bf";
 
 // A command: its name, what it does, and its arguments.
@@ -48,100 +49,215 @@ enum ArgKind {
     Flag,
 }
 
-const REQUIRED: bool = true;
+// An optional argument whose value is a text. The rows below say in what they differ from it.
+const OPTIONAL_TEXT: ArgRow = ArgRow {
+    id: "",
+    long: None,
+    value: None,
+    help: "",
+    is_required: false,
+    kind: ArgKind::Text,
+};
 
-const OPTIONAL: bool = false;
+// A required number of 8 bits.
+const SMALL: ArgRow = ArgRow {
+    is_required: true,
+    kind: ArgKind::Number(0, u8::MAX as i64),
+    ..OPTIONAL_TEXT
+};
 
-// An argument: its `id`, `long`, `value`, `is_required`, `kind` and `help`.
-macro_rules! argument {
-    ($id:literal: $long:expr, $value:expr, $is_required:expr, $kind:expr, $help:literal) => {
-        ArgRow {
-            id: $id,
-            long: $long,
-            value: $value,
-            help: $help,
-            is_required: $is_required,
-            kind: $kind,
-        }
-    };
-}
+// A required number of 32 bits.
+const COORDINATE: ArgRow = ArgRow {
+    is_required: true,
+    kind: ArgKind::Number(0, u32::MAX as i64),
+    ..OPTIONAL_TEXT
+};
 
-const DATABASE: ArgRow = argument!("database": Some("db"), Some("FILE"), OPTIONAL,
-    ArgKind::Text, "The SQLite database of operators and plans, or :memory: for one in memory");
+const DATABASE: ArgRow = ArgRow {
+    id: "database",
+    long: Some("db"),
+    value: Some("FILE"),
+    help: "The SQLite database of operators and plans, or :memory: for one in memory",
+    ..OPTIONAL_TEXT
+};
 
-const NEW_FILE: ArgRow = argument!("to": Some("to"), Some("NEW"), REQUIRED,
-    ArgKind::Text, "The new file, where there is none yet");
+const NEW_FILE: ArgRow = ArgRow {
+    id: "to",
+    long: Some("to"),
+    value: Some("NEW"),
+    help: "The new file, where there is none yet",
+    is_required: true,
+    ..OPTIONAL_TEXT
+};
 
-const MOMENT: ArgRow = argument!("moment": Some("at"), Some("SECOND"), REQUIRED,
-    ArgKind::Number(0, MAX_SECOND), "The moment of all requests, a Unix second");
+const MOMENT: ArgRow = ArgRow {
+    id: "moment",
+    long: Some("at"),
+    value: Some("SECOND"),
+    help: "The moment of all requests, a Unix second",
+    is_required: true,
+    kind: ArgKind::Number(0, MAX_SECOND),
+    ..OPTIONAL_TEXT
+};
 
-const PORT: ArgRow = argument!("port": Some("port"), Some("N"), REQUIRED,
-    ArgKind::Number(1, u16::MAX as i64), "The port of 127.0.0.1 that is listened at");
+const PORT: ArgRow = ArgRow {
+    id: "port",
+    long: Some("port"),
+    value: Some("N"),
+    help: "The port of 127.0.0.1 that is listened at",
+    is_required: true,
+    kind: ArgKind::Number(1, u16::MAX as i64),
+    ..OPTIONAL_TEXT
+};
 
-const CONNECTIONS: ArgRow = argument!("connections": Some("requests"), Some("N"), REQUIRED,
-    ArgKind::Number(1, MAX_CONNECTIONS as i64), "How many connections are served, one request each");
+const CONNECTIONS: ArgRow = ArgRow {
+    id: "connections",
+    long: Some("requests"),
+    value: Some("N"),
+    help: "How many connections are served, one request each",
+    is_required: true,
+    kind: ArgKind::Number(1, MAX_CONNECTIONS as i64),
+    ..OPTIONAL_TEXT
+};
 
-const EQUAL: ArgRow = argument!("equal": Some("equal"), Some("LIST"), OPTIONAL,
-    ArgKind::Text, "Priorities at which plans of equal priority may overlap, ascending, with commas between");
+const EQUAL: ArgRow = ArgRow {
+    id: "equal",
+    long: Some("equal"),
+    value: Some("LIST"),
+    help: "Priorities at which plans of equal priority may overlap, ascending, with commas between",
+    ..OPTIONAL_TEXT
+};
 
-const SPANS: ArgRow = argument!("spans": Some("spans"), Some("N"), OPTIONAL,
-    ArgKind::Number(1, MAX_SPANS as i64), "The most spans that the live plans of an operator may have");
+const SPANS: ArgRow = ArgRow {
+    id: "spans",
+    long: Some("spans"),
+    value: Some("N"),
+    help: "The most spans that the live plans of an operator may have",
+    kind: ArgKind::Number(1, MAX_SPANS as i64),
+    ..OPTIONAL_TEXT
+};
 
-const CELLS: ArgRow = argument!("cells": Some("cells"), Some("N"), OPTIONAL,
-    ArgKind::Number(1, MAX_TOTAL_CELLS as i64), "The most cells that the plans of an operator may have, closed ones too");
+const CELLS: ArgRow = ArgRow {
+    id: "cells",
+    long: Some("cells"),
+    value: Some("N"),
+    help: "The most cells that the plans of an operator may have, closed ones too",
+    kind: ArgKind::Number(1, MAX_TOTAL_CELLS as i64),
+    ..OPTIONAL_TEXT
+};
 
-const OPERATORS: ArgRow = argument!("operators": Some("operators"), Some("FILE"), OPTIONAL,
-    ArgKind::Text, "A file of lines NAME CEILING, read again when it has changed");
+const OPERATORS: ArgRow = ArgRow {
+    id: "operators",
+    long: Some("operators"),
+    value: Some("FILE"),
+    help: "A file of lines NAME CEILING, read again when it has changed",
+    ..OPTIONAL_TEXT
+};
 
-const RECORD: ArgRow = argument!("record": Some("record"), Some("FOLDER"), OPTIONAL,
-    ArgKind::Text, "A folder in which each request and its answer are recorded");
+const RECORD: ArgRow = ArgRow {
+    id: "record",
+    long: Some("record"),
+    value: Some("FOLDER"),
+    help: "A folder in which each request and its answer are recorded",
+    ..OPTIONAL_TEXT
+};
 
-const UNTIL: ArgRow = argument!("until": Some("until"), Some("SECOND"), OPTIONAL,
-    ArgKind::Number(0, MAX_SECOND), "The last Unix second whose requests are played");
+const UNTIL: ArgRow = ArgRow {
+    id: "until",
+    long: Some("until"),
+    value: Some("SECOND"),
+    help: "The last Unix second whose requests are played",
+    kind: ArgKind::Number(0, MAX_SECOND),
+    ..OPTIONAL_TEXT
+};
 
-const ENROLMENTS: ArgRow = argument!("enrolments": None, Some("NAME=CEILING"), OPTIONAL,
-    ArgKind::Texts, "An operator, and the greatest priority that it may use");
+const ENROLMENTS: ArgRow = ArgRow {
+    id: "enrolments",
+    value: Some("NAME=CEILING"),
+    help: "An operator, and the greatest priority that it may use",
+    kind: ArgKind::Texts,
+    ..OPTIONAL_TEXT
+};
 
-const TOKEN: ArgRow = argument!("token": None, Some("TOKEN"), REQUIRED,
-    ArgKind::Text, "A cell of the S2 geometry library, 1 to 16 hex digits");
+const TOKEN: ArgRow = ArgRow {
+    id: "token",
+    value: Some("TOKEN"),
+    help: "A cell of the S2 geometry library, 1 to 16 hex digits",
+    is_required: true,
+    ..OPTIONAL_TEXT
+};
 
-const FACE: ArgRow = argument!("FACE": None, Some("FACE"), REQUIRED,
-    SMALL, "The face, 0 to 5");
+const FACE: ArgRow = ArgRow {
+    id: "FACE",
+    value: Some("FACE"),
+    help: "The face, 0 to 5",
+    ..SMALL
+};
 
-const I_MIN: ArgRow = argument!("I_MIN": None, Some("I_MIN"), REQUIRED,
-    COORDINATE, "The least coordinate i of a leaf");
+const I_MIN: ArgRow = ArgRow {
+    id: "I_MIN",
+    value: Some("I_MIN"),
+    help: "The least coordinate i of a leaf",
+    ..COORDINATE
+};
 
-const I_MAX: ArgRow = argument!("I_MAX": None, Some("I_MAX"), REQUIRED,
-    COORDINATE, "The greatest coordinate i");
+const I_MAX: ArgRow = ArgRow {
+    id: "I_MAX",
+    value: Some("I_MAX"),
+    help: "The greatest coordinate i",
+    ..COORDINATE
+};
 
-const J_MIN: ArgRow = argument!("J_MIN": None, Some("J_MIN"), REQUIRED,
-    COORDINATE, "The least coordinate j");
+const J_MIN: ArgRow = ArgRow {
+    id: "J_MIN",
+    value: Some("J_MIN"),
+    help: "The least coordinate j",
+    ..COORDINATE
+};
 
-const J_MAX: ArgRow = argument!("J_MAX": None, Some("J_MAX"), REQUIRED,
-    COORDINATE, "The greatest coordinate j");
+const J_MAX: ArgRow = ArgRow {
+    id: "J_MAX",
+    value: Some("J_MAX"),
+    help: "The greatest coordinate j",
+    ..COORDINATE
+};
 
-const LEVEL: ArgRow = argument!("LEVEL": None, Some("LEVEL"), REQUIRED,
-    SMALL, "The level, 8 to 24");
+const LEVEL: ArgRow = ArgRow {
+    id: "LEVEL",
+    value: Some("LEVEL"),
+    help: "The level, 8 to 24",
+    ..SMALL
+};
 
-const PICTURE: ArgRow = argument!("picture": Some("svg"), None, OPTIONAL,
-    ArgKind::Flag, "Prints a picture (SVG) in place of the tokens");
+const PICTURE: ArgRow = ArgRow {
+    id: "picture",
+    long: Some("svg"),
+    help: "Prints a picture (SVG) in place of the tokens",
+    kind: ArgKind::Flag,
+    ..OPTIONAL_TEXT
+};
 
-const NAME: ArgRow = argument!("NAME": None, Some("NAME"), REQUIRED,
-    ArgKind::Text, "The operator's name");
+const NAME: ArgRow = ArgRow {
+    id: "NAME",
+    value: Some("NAME"),
+    help: "The operator's name",
+    is_required: true,
+    ..OPTIONAL_TEXT
+};
 
-const CEILING: ArgRow = argument!("CEILING": None, Some("CEILING"), REQUIRED,
-    ArgKind::Text, "The greatest priority that it may use");
+const CEILING: ArgRow = ArgRow {
+    id: "CEILING",
+    value: Some("CEILING"),
+    help: "The greatest priority that it may use",
+    is_required: true,
+    ..OPTIONAL_TEXT
+};
 
 // The database, where it is required.
 const GIVEN_DATABASE: ArgRow = ArgRow {
     is_required: true,
     ..DATABASE
 };
-
-// Numbers of 8 bits, and of 32.
-const SMALL: ArgKind = ArgKind::Number(0, 255);
-
-const COORDINATE: ArgKind = ArgKind::Number(0, 4_294_967_295);
 
 static FORMS: [Form; 9] = [
     Form {
@@ -201,14 +317,16 @@ static FORMS: [Form; 9] = [
     },
 ];
 
-/// The program's command line, for `clap`. An error if memory runs out.
+/// Describes the program to `clap`: its name, its help, its version, and all commands with their arguments.
+/// An error if memory runs out.
 pub fn make_command<'a>(alloc: Global) -> Result<Command<'a>, AllocError>
     ensures { IfOk result (λ command. app_of command ≡ spec.program) }
 {
     add_subcommands(alloc, &FORMS)
 }
 
-// The program with the commands of `forms`, in their order.
+// Describes the program to `clap`, with one command for each of `forms`, in their order. An error if memory
+// runs out.
 fn add_subcommands<'a>(alloc: Global, forms: &'static [Form]) -> Result<Command<'a>, AllocError>
     ensures { IfOk result (λ command.
         app_of command ≡ spec.with_lines (map shape_of_form forms.now)) }
@@ -220,7 +338,8 @@ fn add_subcommands<'a>(alloc: Global, forms: &'static [Form]) -> Result<Command<
     Ok(command)
 }
 
-// The program without commands: its name, its help text and its version.
+// Describes the program to `clap`, still without its commands: its name, its help and its version. A command
+// line without a command is to be refused.
 fn bare_command<'a>(alloc: Global) -> Command<'a>
     ensures { app_of result ≡ spec.bare_program }
 {
@@ -230,30 +349,18 @@ fn bare_command<'a>(alloc: Global) -> Command<'a>
         .subcommand_required(true)
 }
 
-// The command of `form`, with its arguments.
+// Describes the command of `form` to `clap`, with its arguments. An error if memory runs out.
 fn make_subcommand<'a>(alloc: Global, form: &'static Form) -> Result<Command<'a>, AllocError>
     ensures { IfOk result (λ command. shape_of command ≡ shape_of_form form.now) }
 {
-    add_arguments(alloc, form, form.words)
-}
-
-// The command of `form`, with one argument for each row of `words`.
-fn add_arguments<'a>(
-    alloc: Global,
-    form: &'static Form,
-    words: &'static [ArgRow],
-) -> Result<Command<'a>, AllocError>
-    ensures { IfOk result (λ command.
-        shape_of command ≡ line_shape form.now.name.now (map rule_of_row words.now)) }
-{
     let mut command = Command::new(alloc, form.name).about(form.about);
-    for word in words {
+    for word in form.words {
         command = command.arg(make_arg(alloc, word))?;
     }
     Ok(command)
 }
 
-// The argument of `row`, with the kind of its value.
+// Describes the argument of `row` to `clap`.
 fn make_arg<'a>(alloc: Global, row: &ArgRow) -> Arg<'a>
     ensures { rule_of result ≡ rule_of_row row.now }
 {
@@ -266,7 +373,7 @@ fn make_arg<'a>(alloc: Global, row: &ArgRow) -> Arg<'a>
     }
 }
 
-// The argument of `row`, still without the kind of its value.
+// Describes the argument of `row` to `clap`, still without the kind of its value (`row.kind`).
 fn bare_arg<'a>(alloc: Global, row: &ArgRow) -> Arg<'a>
     ensures { rule_of result ≡ bare_rule row.now }
 {

@@ -1,10 +1,11 @@
-//! Priorities on the command line, and the option `--equal`, a list of them.
+//! Priorities on the command line. The option `--equal` lists those at which plans of equal priority may
+//! overlap: the permitted ones. An operator's ceiling is the greatest priority that it may use.
 
 ghost use Rattle.std.specs.Prelude.{◌≡◌, ◌≤◌, ℕ, List, IfOk, IfSome, Some, map, option_map};
 ghost use Rattle.std.specs.{Char.is_ascii_digit, List.list_all, List.slice_split};
 ghost use Rattle.desk_rules.specs.Limits.{max_priority};
 ghost use Rattle.desk_cli.specs.Grammar as spec;
-ghost use Rattle.desk_cli.specs.Grammar.{RefusesOnlyWithout, ArePermittedBy, ArePermittedIn, is_comma, priority_in};
+ghost use Rattle.desk_cli.specs.Grammar.{RefusesOnlyWithout, ArePermittedBy, is_comma, priority_in};
 
 use crate::line::WordsFault;
 use desk_rules::decide::MAX_PRIORITY;
@@ -14,28 +15,20 @@ use std::alloc::{AllocError, Global};
 /// The maximum number of digits of a priority.
 const PRIORITY_DIGITS: usize = 4;
 
-/// Parses the value of `--equal`: the permitted priorities, with commas between them. Without the option none
-/// is permitted.
+/// Parses `word`, the value of `--equal`: the permitted priorities, with commas between them. Without the
+/// option none is permitted.
 ///
 /// # Errors
 ///
-/// `OutOfMemory` if memory runs out; `Value` if the list is malformed or can't be permitted.
+/// `Value` if the list is malformed or empty, has a priority above 1,000 or more than 32 of them, or isn't
+/// ascending; `OutOfMemory` if memory runs out.
 pub fn parse_permitted_option(alloc: Global, word: Option<&str>) -> Result<Permitted, WordsFault>
     ensures given { IfOk result (ArePermittedBy (option_map (λ word. word.now) word.entry)) }
     ensures refused { RefusesOnlyWithout (ArePermittedBy (option_map (λ word. word.now) word.entry)) result }
 {
-    match word {
-        None => Ok(Permitted::none()),
-        Some(word) => parse_permitted(alloc, word),
-    }
-}
-
-// Parses the permitted priorities, with commas between them. `Value` if one is malformed or above 1,000, or
-// if they are more than 32 or not ascending; an empty list is malformed too.
-fn parse_permitted(alloc: Global, word: &str) -> Result<Permitted, WordsFault>
-    ensures given { IfOk result (ArePermittedIn word.now) }
-    ensures refused { RefusesOnlyWithout (ArePermittedIn word.now) result }
-{
+    let Some(word) = word else {
+        return Ok(Permitted::none());
+    };
     let priorities = parse_priorities(alloc, &split_at_commas(alloc, word)?)?;
     let Ok(permitted) = Permitted::try_new(&priorities) else {
         return Err(WordsFault::Value);
@@ -43,7 +36,8 @@ fn parse_permitted(alloc: Global, word: &str) -> Result<Permitted, WordsFault>
     Ok(permitted)
 }
 
-// The parts of `word` between its commas, in their order. Without a comma `word` is the only part.
+// The parts of `word` between its commas, in their order; `word` itself if it has no comma. An error if
+// memory runs out.
 fn split_at_commas<'w>(alloc: Global, word: &'w str) -> Result<Vec<&'w str>, AllocError>
     ensures { IfOk result (λ parts.
         map (λ part. part.now) parts.items ≡ slice_split is_comma word.now) }
@@ -51,7 +45,8 @@ fn split_at_commas<'w>(alloc: Global, word: &'w str) -> Result<Vec<&'w str>, All
     word.split(',').collect(alloc)
 }
 
-// Parses a priority from each part, in their order. `Value` if one is malformed or above 1,000.
+// Parses a priority from each part, in their order. `Value` if one is malformed or above 1,000, `OutOfMemory`
+// if memory runs out.
 fn parse_priorities(alloc: Global, parts: &[&str]) -> Result<Vec<u32>, WordsFault>
     ensures given { IfOk result (λ priorities.
         map Some priorities.items ≡ map priority_in (map (λ part. part.now) parts.now)) }
@@ -91,7 +86,7 @@ fn is_short_number(text: &str) -> bool
     !text.is_empty() && text.len() <= PRIORITY_DIGITS && are_all_digits(text.as_bytes())
 }
 
-// Whether all bytes are decimal digits (ASCII).
+// Whether all bytes are decimal digits (ASCII); true if there are none.
 fn are_all_digits(bytes: &[u8]) -> bool
     ensures { result ≡ list_all is_ascii_digit bytes.now }
 {

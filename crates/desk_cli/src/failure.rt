@@ -1,4 +1,5 @@
-//! Error codes: why a command failed, its exit status, and the word that is printed.
+//! Error codes: why a command failed, its exit status, and the word that is printed. A desk is what the
+//! program runs: it decides requests to plan flights, against the plans in its store.
 
 ghost use Rattle.std.specs.Prelude.{◌≡◌, IfErr, None, OnOk, is_some};
 ghost use Rattle.std.specs.Io.KnownBytes.{Appends};
@@ -57,8 +58,8 @@ pub enum ErrorCode {
 }
 
 impl ErrorCode {
-    /// The exit status: 2 for the arguments, 3 for the input, 4 for memory, the database, the output, the
-    /// network and the clock.
+    /// The exit status of a command that failed so: 2 because of its arguments, 3 because of its input, 4
+    /// because of memory, the database, the output, the network or the clock.
     pub fn status(self) -> u8
         ensures { result ≡ spec.failure_status self }
     {
@@ -73,7 +74,7 @@ impl ErrorCode {
         }
     }
 
-    /// The error code as it is printed.
+    /// The word for this error code, as it is printed.
     pub fn word(self) -> &'static str
         ensures { result.now ≡ spec.failure_word self }
     {
@@ -101,7 +102,7 @@ impl ErrorCode {
     }
 }
 
-// The error code of a text that is no S2 token, by what is wrong with it.
+// The word for a text that is no S2 token (a cell's name in hex digits), by what is wrong with it.
 fn token_word(fault: TokenFault) -> &'static str
     ensures { result.now ≡ spec.token_word fault }
 {
@@ -113,7 +114,7 @@ fn token_word(fault: TokenFault) -> &'static str
     }
 }
 
-// The error code of numbers that are no rectangle, by what is wrong with them.
+// The word for six numbers that are no rectangle, by what is wrong with them.
 fn rect_word(fault: RectFault) -> &'static str
     ensures { result.now ≡ spec.rect_word fault }
 {
@@ -156,6 +157,7 @@ impl From<ServeFault> for ErrorCode {
 impl<W> From<WriteError<W>> for ErrorCode {
     ghost from_gives = { λ _ f. f ≡ failure.Write };
 
+    // The error code of a write that failed.
     fn from(_cut: WriteError<W>) -> ErrorCode {
         ErrorCode::Write
     }
@@ -164,6 +166,7 @@ impl<W> From<WriteError<W>> for ErrorCode {
 impl From<TokenFault> for ErrorCode {
     ghost from_gives = { λ fault f. f ≡ failure.Token fault };
 
+    // The error code of a text that is no S2 token.
     fn from(fault: TokenFault) -> ErrorCode {
         ErrorCode::Token(fault)
     }
@@ -172,6 +175,7 @@ impl From<TokenFault> for ErrorCode {
 impl From<RectFault> for ErrorCode {
     ghost from_gives = { λ fault f. f ≡ failure.Rect fault };
 
+    // The error code of six numbers that are no rectangle.
     fn from(fault: RectFault) -> ErrorCode {
         ErrorCode::Rect(fault)
     }
@@ -192,6 +196,7 @@ impl From<CoverFault> for ErrorCode {
 impl From<AllocError> for ErrorCode {
     ghost from_gives = { λ _ f. f ≡ failure.Memory };
 
+    // The error code if memory ran out.
     fn from(_error: AllocError) -> ErrorCode {
         ErrorCode::Memory
     }
@@ -200,6 +205,7 @@ impl From<AllocError> for ErrorCode {
 impl<T: Drop> From<AllocFailed<T>> for ErrorCode {
     ghost from_gives = { λ _ f. f ≡ failure.Memory };
 
+    // The error code if memory ran out.
     fn from(_error: AllocFailed<T>) -> ErrorCode {
         ErrorCode::Memory
     }
@@ -215,7 +221,7 @@ pub struct ExitReport<E> {
 }
 
 impl<E> ExitReport<E> {
-    /// The exit with `status` of a command for which no error code was printed.
+    /// The report of a command that ended with `status`, and for which no error code was to be printed.
     pub fn silent(status: u8) -> ExitReport<E>
         ensures status { result.status ≡ status }
         ensures cut { result.cut ≡ None }
@@ -224,8 +230,9 @@ impl<E> ExitReport<E> {
     }
 }
 
-/// The exit of a command: status 0 if `done` is Ok; else the error's status, and its code is printed to
-/// `errors` as `uss_desk: WORD`. A write error there doesn't change the status, and is returned in `cut`.
+/// Ends a command whose result is `done`. If that is an error, prints `uss_desk: WORD` with its word to
+/// `errors`, and reports its status; else reports the status 0. A write error at `errors` doesn't change the
+/// status: it is returned in `cut`.
 pub fn report_exit<E: Write>(errors: &mut E, done: Result<(), ErrorCode>) -> ExitReport<E>
     ensures status { result.status ≡ spec.exit_status done }
     ensures reported { spec.IsExitReported done (is_some result.cut) (E.contents errors.old)
@@ -240,7 +247,8 @@ pub fn report_exit<E: Write>(errors: &mut E, done: Result<(), ErrorCode>) -> Exi
     }
 }
 
-// Writes the line `uss_desk: WORD`, up to the first write that fails, whose error is returned.
+// Writes the line `uss_desk: WORD` with the word for `failure`. The error is that of the first write that
+// failed: nothing is written after that.
 fn write_failure<E: Write>(errors: &mut E, failure: ErrorCode) -> Result<(), WriteError<E>>
     ensures ok { OnOk result (Appends (E.contents errors.old) (E.contents errors.new)
         (spec.failure_line failure)) }

@@ -19,4 +19,4 @@ pub use line::{
 pub use malformed::find_malformed_argument;
 pub use printed::{print_line, write_text};
 pub use register::{lines_of, parse_enrolment_line, parse_enrolment_lines};
-pub use reporting::{report, report_line, report_malformed_argument};
+pub use reporting::{report, report_malformed_argument};

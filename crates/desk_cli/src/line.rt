@@ -1,13 +1,20 @@
-//! The command line of the program.
+//! The command line of the program, parsed into one command with its arguments.
+//!
+//! A desk decides requests to plan flights, against the plans in its database. It does so for the operators
+//! that are enrolled there. An operator's ceiling is the greatest priority that it may use.
+//!
+//! The functions `read_..` read arguments from `given`, which has those that `clap` found in the command
+//! line. `clap` has checked them against the tables of the module `command`. The error `OutOfMemory` says
+//! that memory ran out.
 
-ghost use Rattle.std.specs.Prelude.{◌≡◌, ◌≤◌, ◌<◌, ◌^◌, ◌↔◌, ℕ, IsTrue, Option, ℤ, pos, List, IfErr, IfOk, IfSome, None, Some, map, option_map, codes, string_bytes};
+ghost use Rattle.std.specs.Prelude.{◌≡◌, ◌≤◌, ◌<◌, ◌^◌, ℕ, Option, ℤ, List, IfErr, IfOk, IfSome, None, Some, map, option_map, codes, string_bytes};
 ghost use Rattle.std.specs.Int.{IsInRange};
 ghost use mir.Syntax.{w64};
 ghost use mir.Val.{SFits};
 ghost use Rattle.clap.specs.{Matches.found_of, Simple.subcommand_of, Simple.subcommand_rows_of, Walk.first_of, Walk.rows_of};
 ghost use Rattle.desk_rules.specs.Limits.{max_priority};
 ghost use Rattle.io_ends.specs.Writing.{IsMoment};
-ghost use Rattle.desk_cli.specs.Lines.{SameDesk, SameLine, AreEnrolments, IsCover, IsEnrol, IsMomentIfGiven, IsLine, IsPlay, IsReplay, IsServe, desk_of, file_of, max_connections, max_port, min_connections, min_limit, min_port};
+ghost use Rattle.desk_cli.specs.Lines.{SameDesk, SameLine, AreEnrolments, IsCover, IsEnrol, IsMomentIfGiven, IsLine, IsPlay, IsReplay, IsServe, desk_of, file_of, max_connections, max_port, min_connections, min_port};
 ghost use Rattle.desk_cli.specs.Grammar.{ArePermittedBy, AreEnrolmentsGiven, AreTermsOf, AreWordsRefused, HasGiven, IsBareDeskGiven, IsCopyGiven, IsCoverGiven, IsDeskGiven, IsEnrolGiven, IsGiven, IsLineOf, IsLimitGiven, IsNumberGiven, IsNumberOrNone, IsPlayGiven, IsReplayGiven, IsIntegerGiven, IsServeGiven, IsTextGiven, IsRefusedByClap, RefusesOnlyWithout, enrolment_given, enrolment_in, file_given, name_of, program};
 ghost use Rattle.desk_cli.specs.Grammar as spec;
 ghost use Rattle.desk_cli.specs.declared.line.CoverArgs.{CoverArgs};
@@ -54,7 +61,7 @@ pub enum Line {
 }
 
 impl Line {
-    /// A copy of this command line.
+    /// A copy of this command line, with the same arguments.
     ///
     /// # Errors
     ///
@@ -104,7 +111,7 @@ pub enum DeskCommand<'a> {
 }
 
 impl<'a> DeskCommand<'a> {
-    /// The desk that the command opens, with its settings and enrolments.
+    /// The arguments that say which desk the command opens, with its settings and enrolments.
     pub fn desk(self) -> &'a DeskArgs
         ensures { result.now ≡ desk_of self.entry }
     {
@@ -155,7 +162,7 @@ pub struct DeskArgs {
 }
 
 impl DeskArgs {
-    /// A copy of these arguments.
+    /// A copy of these arguments, with equal values.
     ///
     /// # Errors
     ///
@@ -257,6 +264,7 @@ pub enum WordsFault {
 impl From<AllocError> for WordsFault {
     ghost from_gives = { λ _ f. f ≡ fault.OutOfMemory };
 
+    // A failed allocation means that memory ran out.
     fn from(_error: AllocError) -> WordsFault {
         WordsFault::OutOfMemory
     }
@@ -265,6 +273,7 @@ impl From<AllocError> for WordsFault {
 impl<T: Drop> From<AllocFailed<T>> for WordsFault {
     ghost from_gives = { λ _ f. f ≡ fault.OutOfMemory };
 
+    // A failed allocation means that memory ran out.
     fn from(_error: AllocFailed<T>) -> WordsFault {
         WordsFault::OutOfMemory
     }
@@ -279,7 +288,7 @@ impl From<clap::Error> for WordsFault {
     ghost from_gives = { λ error f. (f ≡ fault.OutOfMemory)
         ⊎ ((f ≡ fault.Words error) × (kind_of error ≢ kind.OutOfMemory)) };
 
-    // `clap` reports that memory ran out by an error kind of its own.
+    // `OutOfMemory` if memory ran out in `clap`, which has an error kind of its own for that; else `Words`.
     fn from(error: clap::Error) -> WordsFault {
         if error.kind() == ErrorKind::OutOfMemory {
             WordsFault::OutOfMemory
@@ -321,7 +330,8 @@ pub(crate) fn match_words(alloc: Global, words: &[String]) -> Result<ArgMatches<
     Ok(make_command(alloc)?.try_get_matches_from(words)?)
 }
 
-// Reads the command `name` from `given`, the arguments that `clap` found. `clap` refuses other names before.
+// Reads the command `name` and its arguments. `Value` if an argument that `clap` doesn't check is malformed,
+// or if there is no such command, which `clap` refuses before.
 fn read_command(alloc: Global, name: &str, given: &ArgMatches<'_>) -> Result<Line, WordsFault>
     ensures valid { IfOk result IsLine }
     ensures name { IfOk result (λ line. name_of line ≡ name.now) }
@@ -342,7 +352,7 @@ fn read_command(alloc: Global, name: &str, given: &ArgMatches<'_>) -> Result<Lin
     }
 }
 
-// Reads the arguments of `play`. `Value` if a list of priorities or an enrolment is malformed.
+// Reads the arguments of `play`. `Value` if one is missing, malformed or out of range.
 fn read_play(alloc: Global, given: &ArgMatches<'_>) -> Result<PlayArgs, WordsFault>
     ensures valid { IfOk result IsPlay }
     ensures given { IfOk result (IsPlayGiven (rows_of (found_of given.now))) }
@@ -356,7 +366,7 @@ fn read_play(alloc: Global, given: &ArgMatches<'_>) -> Result<PlayArgs, WordsFau
 }
 
 // Reads which desk `play` or `serve` opens. `operators` is the path of the file of enrolments, which only
-// `serve` may have.
+// `serve` may have. `Value` if a list of priorities, a limit or an enrolment is malformed.
 fn read_desk(
     alloc: Global,
     given: &ArgMatches<'_>,
@@ -387,7 +397,7 @@ fn read_moment(given: &ArgMatches<'_>) -> Option<Moment>
     Moment::try_new(read_i64(given, "moment")?)
 }
 
-// Reads the argument `id` as an `i64`. None if it is missing or out of range.
+// Reads the argument `id` as an `i64`. None if it is missing or isn't one.
 fn read_i64(given: &ArgMatches<'_>, id: &str) -> Option<i64>
     ensures given { IfSome result (IsIntegerGiven id.now (rows_of (found_of given.now))) }
     ensures refused { result ≡ None → (z : ℤ) → SFits w64 z
@@ -396,7 +406,8 @@ fn read_i64(given: &ArgMatches<'_>, id: &str) -> Option<i64>
     given.get_one(id)
 }
 
-// Reads the argument of `token`, which isn't checked yet. `Value` if it is missing.
+// Reads the argument of `token`. `Value` if it is missing; whether it is the token of a cell is checked
+// later.
 fn read_token(alloc: Global, given: &ArgMatches<'_>) -> Result<String, WordsFault>
     ensures given { IfOk result (λ token. IsTextGiven (rows_of (found_of given.now)) (string_bytes token)) }
     ensures refused { RefusesOnlyWithout (IsTextGiven (rows_of (found_of given.now))) result }
@@ -405,8 +416,7 @@ fn read_token(alloc: Global, given: &ArgMatches<'_>) -> Result<String, WordsFaul
     Ok(String::from_str(alloc, token)?)
 }
 
-// Reads the arguments of `serve`. `Value` if a number is out of range, or if a list of priorities or an
-// enrolment is malformed.
+// Reads the arguments of `serve`. `Value` if one is missing, malformed or out of range.
 fn read_serve(alloc: Global, given: &ArgMatches<'_>) -> Result<ServeArgs, WordsFault>
     ensures valid { IfOk result IsServe }
     ensures given { IfOk result (IsServeGiven (rows_of (found_of given.now))) }
@@ -446,7 +456,8 @@ fn read_connections(given: &ArgMatches<'_>) -> Option<u32>
         .then_some(connections)
 }
 
-// Reads the path of the journal's folder (`--record`), if one is given.
+// Reads the path of the folder in which requests and answers are recorded (`--record`), if one is given. An
+// error if memory runs out.
 fn read_folder(alloc: Global, given: &ArgMatches<'_>) -> Result<Option<String>, AllocError>
     ensures { IfOk result (λ folder. option_map string_bytes folder
         ≡ first_of (codes "record") (rows_of (found_of given.now))) }
@@ -454,7 +465,7 @@ fn read_folder(alloc: Global, given: &ArgMatches<'_>) -> Result<Option<String>, 
     owned_text(alloc, argument(given, "record"))
 }
 
-// An owned copy of `text`, if there is one.
+// An owned copy of `text`, if there is one. An error if memory runs out.
 fn owned_text(alloc: Global, text: Option<&str>) -> Result<Option<String>, AllocError>
     ensures { IfOk result (λ owned. option_map string_bytes owned
         ≡ option_map (λ text. text.now) text.entry) }
@@ -484,7 +495,7 @@ fn read_cover(given: &ArgMatches<'_>) -> Option<CoverArgs>
     })
 }
 
-// Reads the argument `id` as a `u8`. None if it is missing or out of range.
+// Reads the argument `id` as a `u8`. None if it is missing or isn't one.
 fn read_u8(given: &ArgMatches<'_>, id: &str) -> Option<u8>
     ensures given { IfSome result (IsNumberGiven id.now (rows_of (found_of given.now))) }
     ensures refused { result ≡ None → (n : ℕ) → n < 2 ^ 8
@@ -493,7 +504,7 @@ fn read_u8(given: &ArgMatches<'_>, id: &str) -> Option<u8>
     given.get_one(id)
 }
 
-// Reads the argument `id` as a `u16`. None if it is missing or out of range.
+// Reads the argument `id` as a `u16`. None if it is missing or isn't one.
 fn read_u16(given: &ArgMatches<'_>, id: &str) -> Option<u16>
     ensures given { IfSome result (IsNumberGiven id.now (rows_of (found_of given.now))) }
     ensures refused { result ≡ None → (n : ℕ) → n < 2 ^ 16
@@ -502,7 +513,7 @@ fn read_u16(given: &ArgMatches<'_>, id: &str) -> Option<u16>
     given.get_one(id)
 }
 
-// Reads the argument `id` as a `u32`. None if it is missing or out of range.
+// Reads the argument `id` as a `u32`. None if it is missing or isn't one.
 fn read_u32(given: &ArgMatches<'_>, id: &str) -> Option<u32>
     ensures given { IfSome result (IsNumberGiven id.now (rows_of (found_of given.now))) }
     ensures refused { result ≡ None → (n : ℕ) → n < 2 ^ 32
@@ -518,7 +529,7 @@ fn is_flag_set(given: &ArgMatches<'_>, id: &str) -> bool
     given.get_one(id).unwrap_or(false)
 }
 
-// Reads the arguments of `enrol`. `Value` if the name or the ceiling is malformed.
+// Reads the arguments of `enrol`. `Value` if the name or the ceiling is missing or malformed.
 fn read_enrol(alloc: Global, given: &ArgMatches<'_>) -> Result<EnrolArgs, WordsFault>
     ensures valid { IfOk result IsEnrol }
     ensures given { IfOk result (IsEnrolGiven (rows_of (found_of given.now))) }
@@ -531,7 +542,8 @@ fn read_enrol(alloc: Global, given: &ArgMatches<'_>) -> Result<EnrolArgs, WordsF
     })
 }
 
-// Reads which desk `enrol` opens: its database and its folder, without settings and enrolments.
+// Reads which desk `enrol` opens: its database and its folder. It has no settings, and enrols nobody else. An
+// error if memory runs out.
 fn read_bare_desk(alloc: Global, given: &ArgMatches<'_>) -> Result<DeskArgs, AllocError>
     ensures { IfOk result (IsBareDeskGiven (rows_of (found_of given.now))) }
 {
@@ -556,7 +568,7 @@ fn read_copy(alloc: Global, given: &ArgMatches<'_>) -> Result<CopyArgs, WordsFau
     })
 }
 
-// Reads the arguments of `replay`. `Value` if the last second is out of range.
+// Reads the arguments of `replay`. `Value` if the last second to be replayed is out of range.
 fn read_replay(alloc: Global, given: &ArgMatches<'_>) -> Result<ReplayArgs, WordsFault>
     ensures valid { IfOk result IsReplay }
     ensures given { IfOk result (IsReplayGiven (rows_of (found_of given.now))) }
@@ -579,17 +591,12 @@ fn read_until(given: &ArgMatches<'_>) -> Option<Option<u64>>
         → IsNumberOrNone (codes "until") (rows_of (found_of given.now)) found → ⊥ }
 {
     let until = read_u64_if_given(given, "until")?;
-    until.is_none_or(is_moment).then_some(until)
+    until
+        .is_none_or(|second| second <= MAX_SECOND as u64)
+        .then_some(until)
 }
 
-// Whether the Unix second `second` is a moment: at most `MAX_SECOND`.
-fn is_moment(second: u64) -> bool
-    ensures { IsTrue result ↔ IsMoment (pos second) }
-{
-    second <= MAX_SECOND as u64
-}
-
-// Reads the argument `id` as a `u64`: `Some(None)` if it is missing, None if it is out of range.
+// Reads the argument `id` as a `u64`: `Some(None)` if it is missing, None if it isn't one.
 fn read_u64_if_given(given: &ArgMatches<'_>, id: &str) -> Option<Option<u64>>
     ensures given { IfSome result (IsNumberOrNone id.now (rows_of (found_of given.now))) }
     ensures refused { result ≡ None → (found : Option ℕ) → IfSome found (λ n. n < 2 ^ 64)
@@ -613,7 +620,7 @@ pub(crate) fn argument<'a>(given: &ArgMatches<'a>, id: &str) -> Option<&'a str>
     given.get_str(id)
 }
 
-// Reads which database is used: in memory if `--db` is missing or `:memory:`.
+// Reads which database is used: in memory if `--db` is missing or `:memory:`. An error if memory runs out.
 fn read_database(alloc: Global, given: &ArgMatches<'_>) -> Result<Database, AllocError>
     ensures { IfOk result (λ database. file_of database ≡ file_given (rows_of (found_of given.now))) }
 {
@@ -623,7 +630,8 @@ fn read_database(alloc: Global, given: &ArgMatches<'_>) -> Result<Database, Allo
     }
 }
 
-// Reads the settings of the desk: the permitted priorities, and the limits on spans and on cells.
+// Reads the settings of the desk: the permitted priorities, and the limits on spans and on cells. `Value` if
+// one is malformed.
 fn read_terms(alloc: Global, given: &ArgMatches<'_>) -> Result<Terms, WordsFault>
     ensures given { IfOk result (AreTermsOf (rows_of (found_of given.now))) }
     ensures refused { RefusesOnlyWithout (AreTermsOf (rows_of (found_of given.now))) result }
@@ -635,26 +643,20 @@ fn read_terms(alloc: Global, given: &ArgMatches<'_>) -> Result<Terms, WordsFault
     })
 }
 
-// Reads the limit `id`: `Some` from 1 to `greatest`, None if the option is missing. `Value` for other values.
+// Reads the limit `id`, which may be from 1 to `greatest`; None if the option is missing. `Value` for any
+// other value.
 fn read_limit(given: &ArgMatches<'_>, id: &str, greatest: u32) -> Result<Option<u32>, WordsFault>
     ensures given { IfOk result (IsLimitGiven id.now greatest (rows_of (found_of given.now))) }
     ensures refused { RefusesOnlyWithout (IsLimitGiven id.now greatest (rows_of (found_of given.now))) result }
 {
     let limit = read_u32_if_given(given, id).ok_or(WordsFault::Value)?;
-    if !is_valid_limit(limit, greatest) {
+    if !limit.is_none_or(|limit| (1..=greatest).contains(&limit)) {
         return Err(WordsFault::Value);
     }
     Ok(limit)
 }
 
-// Whether `limit`, if there is one, is from 1 to `greatest`.
-fn is_valid_limit(limit: Option<u32>, greatest: u32) -> bool
-    ensures { IsTrue result ↔ IfSome limit (IsInRange min_limit greatest) }
-{
-    limit.is_none_or(|limit| (1..=greatest).contains(&limit))
-}
-
-// Reads the argument `id` as a `u32`: `Some(None)` if it is missing, None if it is out of range.
+// Reads the argument `id` as a `u32`: `Some(None)` if it is missing, None if it isn't one.
 fn read_u32_if_given(given: &ArgMatches<'_>, id: &str) -> Option<Option<u32>>
     ensures given { IfSome result (IsNumberOrNone id.now (rows_of (found_of given.now))) }
     ensures refused { result ≡ None → (found : Option ℕ) → IfSome found (λ n. n < 2 ^ 32)
@@ -663,7 +665,8 @@ fn read_u32_if_given(given: &ArgMatches<'_>, id: &str) -> Option<Option<u32>>
     given.try_get_one(id).ok()
 }
 
-// Reads the priorities at which plans of equal priority may overlap (`--equal`).
+// Reads the priorities at which plans of equal priority may overlap (`--equal`). `Value` if the list is
+// malformed.
 fn read_permitted(alloc: Global, given: &ArgMatches<'_>) -> Result<Permitted, WordsFault>
     ensures given { IfOk result (ArePermittedBy
         (first_of (codes "equal") (rows_of (found_of given.now)))) }
@@ -712,7 +715,8 @@ fn parse_enrolment(word: &str) -> Option<Enrolment>
     make_enrolment(name, ceiling)
 }
 
-/// The enrolment of the operator `name` with `ceiling`. None if either text is malformed.
+/// The enrolment of the operator `name` with the ceiling `ceiling`, a decimal number. None if `name` is no
+/// operator's name, or `ceiling` is malformed or above 1,000.
 pub(crate) fn make_enrolment(name: &str, ceiling: &str) -> Option<Enrolment>
     ensures parsed { result ≡ spec.enrolment_by name.now ceiling.now }
     ensures in_range { IfSome result (λ e. e.ceiling ≤ max_priority) }

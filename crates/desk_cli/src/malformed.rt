@@ -1,9 +1,11 @@
-//! Which argument is malformed: found for the error message after the command line was refused.
+//! Which argument is malformed: found for the error message after the command line was refused. Only
+//! arguments that `clap` doesn't check are looked at: those of `enrol`, and `--equal` and the enrolments of
+//! `play` and `serve`. A reason is a text that says what an argument should have been.
 
 ghost use Rattle.std.specs.Prelude.{◌≡◌, [], codes, IfSome, Some, is_none, is_some, map, not, option_map, string_bytes, unwrap_or};
 ghost use Rattle.clap.specs.{Matches.found_of, Walk.all_of, Walk.rows_of};
 ghost use Rattle.desk_rules.specs.Limits.{is_operator_name};
-ghost use Rattle.desk_cli.specs.Grammar.{priority_in, enrolment_by, enrolment_in};
+ghost use Rattle.desk_cli.specs.Grammar.{priority_in, enrolment_in};
 ghost use Rattle.desk_cli.specs.Malformed.{IsMalformedAtDesk, IsMalformedListOrEnrolment, IsMalformedOperator, IsFirstMalformed, IsMalformed, first_malformed_enrolment};
 
 use crate::equal::{parse_permitted_option, parse_priority};
@@ -15,8 +17,8 @@ use std::alloc::Global;
 const NO_LIST: &str =
     "no list of priorities: at most 32 from 0 to 1000, ascending, with commas between";
 
-/// The first malformed argument of the command line `words`, and why it is malformed, as a text that says
-/// what it should have been. None if no argument is malformed, or if memory runs out.
+/// The first malformed argument of the command line `words`, with the reason; the first word is the program's
+/// own name. None if no argument is malformed, if `clap` refuses the command line, or if memory runs out.
 pub fn find_malformed_argument<'w>(
     alloc: Global,
     words: &'w [String],
@@ -28,7 +30,8 @@ pub fn find_malformed_argument<'w>(
     malformed_argument(alloc, name, given)
 }
 
-// The first malformed argument of the command `name`; the commands that `clap` checks alone have none.
+// The first malformed argument of the command `name`, with the reason. None if none is malformed, which is so
+// of all commands but `enrol`, `play` and `serve`, or if memory runs out.
 fn malformed_argument<'w>(
     alloc: Global,
     name: &str,
@@ -42,7 +45,8 @@ fn malformed_argument<'w>(
     malformed_at_desk(alloc, given)
 }
 
-// The name of `enrol` if it is malformed, else the ceiling if that is.
+// The operator's name given to `enrol` if it is malformed, else its ceiling if that is, with the reason. None
+// if neither is.
 fn malformed_operator<'w>(given: &ArgMatches<'w>) -> Option<(&'w str, &'static str)>
     ensures { IfSome result (λ found. IsMalformedOperator (rows_of (found_of given.now)) found.0.now) }
 {
@@ -55,7 +59,8 @@ fn malformed_operator<'w>(given: &ArgMatches<'w>) -> Option<(&'w str, &'static s
     Some((ceiling, cause))
 }
 
-// The first malformed argument of `play` or `serve`: the value of `--equal`, or an enrolment.
+// The first malformed argument of `play` or `serve`, with the reason: the value of `--equal`, or an
+// enrolment. None if none is malformed, or if memory runs out.
 fn malformed_at_desk<'w>(alloc: Global, given: &ArgMatches<'w>) -> Option<(&'w str, &'static str)>
     ensures { IfSome result (λ found. IsMalformedAtDesk (rows_of (found_of given.now)) found.0.now) }
 {
@@ -63,8 +68,8 @@ fn malformed_at_desk<'w>(alloc: Global, given: &ArgMatches<'w>) -> Option<(&'w s
     malformed_list_or_enrolment(alloc, argument(given, "equal"), words)
 }
 
-// The value of `--equal`, if it is malformed, else the first of `words` that is no enrolment. None if memory
-// runs out.
+// The value of `--equal` (`equal`) if it is malformed, else the first of `words` that is no enrolment, with
+// the reason. None if there is neither, or if memory runs out.
 fn malformed_list_or_enrolment<'w>(
     alloc: Global,
     equal: Option<&'w str>,
@@ -83,7 +88,7 @@ fn malformed_list_or_enrolment<'w>(
     }
 }
 
-// The first of `words` that is no enrolment `NAME=CEILING`. None if all are.
+// The first of `words` that is no enrolment `NAME=CEILING`, with the reason. None if all are enrolments.
 fn malformed_enrolment<'w>(words: &[&'w str]) -> Option<(&'w str, &'static str)>
     ensures { IfSome result (λ found. first_malformed_enrolment (map (λ word. word.now) words.now) ≡ Some found.0.now) }
 {
@@ -95,21 +100,14 @@ fn malformed_enrolment<'w>(words: &[&'w str]) -> Option<(&'w str, &'static str)>
     None
 }
 
-// Why `word` is no enrolment. None if it is one.
+// Why `word` is no enrolment `NAME=CEILING`. None if it is one.
 #[tactic(auto, unfolding(crate::specs::Grammar::enrolment_in))]
 fn enrolment_cause(word: &str) -> Option<&'static str>
     ensures { is_some result ≡ is_none (enrolment_in word.now) }
 {
-    match word.split_once('=') {
-        None => Some("no NAME=CEILING"),
-        Some((name, ceiling)) => pair_cause(name, ceiling),
-    }
-}
-
-// Why `name` is no operator's name, or else why `ceiling` is no ceiling. None if both are well-formed.
-fn pair_cause(name: &str, ceiling: &str) -> Option<&'static str>
-    ensures { is_some result ≡ is_none (enrolment_by name.now ceiling.now) }
-{
+    let Some((name, ceiling)) = word.split_once('=') else {
+        return Some("no NAME=CEILING");
+    };
     name_cause(name).or_else(|| ceiling_cause(ceiling))
 }
 
@@ -117,18 +115,16 @@ fn pair_cause(name: &str, ceiling: &str) -> Option<&'static str>
 fn name_cause(name: &str) -> Option<&'static str>
     ensures { is_some result ≡ not (is_operator_name name.now) }
 {
-    match Operator::try_new(name.as_bytes()) {
-        Some(_) => None,
-        None => Some("no operator's name: 1 to 32 of a to z, 0 to 9 and -"),
-    }
+    Operator::try_new(name.as_bytes())
+        .is_none()
+        .then_some("no operator's name: 1 to 32 of a to z, 0 to 9 and -")
 }
 
 // Why `ceiling` is no ceiling: a number from 0 to 1,000. None if it is one.
 fn ceiling_cause(ceiling: &str) -> Option<&'static str>
     ensures { is_some result ≡ is_none (priority_in ceiling.now) }
 {
-    match parse_priority(ceiling) {
-        Some(_) => None,
-        None => Some("no ceiling: a number from 0 to 1000, of at most 4 digits"),
-    }
+    parse_priority(ceiling)
+        .is_none()
+        .then_some("no ceiling: a number from 0 to 1000, of at most 4 digits")
 }

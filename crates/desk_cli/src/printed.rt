@@ -1,4 +1,6 @@
-//! The commands that need no database: `token` reports a cell, and `cover` the cells of a rectangle.
+//! The commands that need no database: `token` reports a cell, and `cover` the cells of a rectangle. The
+//! cells are those of the S2 geometry library: a leaf is a cell of its finest level, and a token is a cell's
+//! name in hex digits.
 
 ghost use Rattle.std.specs.Prelude.{◌≡◌, ◌⊎◌, List, IfOk, IfErr, OnOk, Ok, Err, length, string_bytes};
 ghost use Rattle.std.specs.Io.KnownBytes.{Appends};
@@ -35,7 +37,8 @@ pub fn print_line<W: Write, E: Write>(
     report_exit(errors, print_output(alloc, line, output))
 }
 
-// Prints the result of `line`, which is `token` or `cover`. An error if there is none, or a write fails.
+// Prints the result of `line`, which is `token` or `cover`. An error if its arguments have no result, memory
+// runs out or a write fails; a part of the result may be printed only if a write fails.
 fn print_output<W: Write>(alloc: Global, line: &Line, output: &mut W) -> Result<(), ErrorCode>
     requires { IsTokenOrCover line.now }
     ensures { IsShown line.now result (W.contents output.old) (W.contents output.new) }
@@ -43,7 +46,7 @@ fn print_output<W: Write>(alloc: Global, line: &Line, output: &mut W) -> Result<
     write_text(output, &output_text(alloc, line)?)
 }
 
-/// Writes `text`, up to the first write that fails.
+/// Writes `text` to `output`, up to the first write that fails.
 ///
 /// # Errors
 ///
@@ -58,7 +61,8 @@ pub fn write_text<W: Write>(output: &mut W, text: &str) -> Result<(), ErrorCode>
     Ok(())
 }
 
-// The result of `line`, which is `token` or `cover`, as it is printed.
+// The result of `line`, which is `token` or `cover`, as it is printed. An error if its arguments have no
+// result, or if memory runs out.
 fn output_text(alloc: Global, line: &Line) -> Result<String, ErrorCode>
     requires { IsTokenOrCover line.now }
     ensures ok { IfOk result (λ text. IsTextOf line.now (Ok (string_bytes text))) }
@@ -71,7 +75,8 @@ fn output_text(alloc: Global, line: &Line) -> Result<String, ErrorCode>
     }
 }
 
-// The line that describes the cell of `token`, an S2 token. An error if `token` is none.
+// The line that describes the cell of the S2 token `token`. An error if it is no such token, or memory runs
+// out.
 fn token_text(alloc: Global, token: &str) -> Result<String, ErrorCode>
     ensures ok { IfOk result (λ text. Ok (string_bytes text) ≡ reported_of_token (read_token token.now)) }
     ensures err { IfErr result (λ f. (f ≡ Memory) ⊎ (Err f ≡ reported_of_token (read_token token.now))) }
@@ -81,6 +86,7 @@ fn token_text(alloc: Global, token: &str) -> Result<String, ErrorCode>
 }
 
 // The line that describes a cell: its token, its face, its level, and the tokens of its first and last leaf.
+// An error if memory runs out.
 #[tactic(auto, unfolding(crate::specs::Exits::cell_line))]
 fn cell_line(alloc: Global, cell: &CellId) -> Result<String, AllocError>
     ensures { IfOk result (λ text. string_bytes text ≡ spec.cell_line cell.now) }
@@ -92,8 +98,8 @@ fn cell_line(alloc: Global, cell: &CellId) -> Result<String, AllocError>
     format!(in alloc; "{cell} face {face} level {level} leaves {first} {last}\n")
 }
 
-// The cells of a rectangle's cover: their tokens and counts, or, if asked for, a picture of them. An error if
-// the numbers are no rectangle, or the cover has more than `MAX_COVER` cells.
+// The cells that cover a rectangle: a list of them, or a picture if that is asked for. An error if the
+// numbers are no rectangle, if more than `MAX_COVER` cells are needed, or if memory runs out.
 fn cover_text(alloc: Global, cover_args: &CoverArgs) -> Result<String, ErrorCode>
     ensures ok { IfOk result (λ text. IsRectReported cover_args.now.is_picture
         (rect_or_fault (rect_parts cover_args.now)) (Ok (string_bytes text))) }
@@ -116,7 +122,8 @@ fn cover_text(alloc: Global, cover_args: &CoverArgs) -> Result<String, ErrorCode
     }
 }
 
-// The token of each cell of a cover on its own line, then one line with the numbers of cells and of ranges.
+// The token of each cell of a cover on its own line, then one line with the numbers of cells and of ranges,
+// the runs of leaves that follow each other on the S2 curve. An error if memory runs out.
 #[tactic(auto, unfolding(crate::specs::Exits::cover_lines))]
 fn cells_text(alloc: Global, cover: &Cover) -> Result<String, AllocError>
     ensures { IfOk result (λ text. (spans : List Span) × IsRanges (leaves_of cover.now.ids) spans
@@ -130,7 +137,7 @@ fn cells_text(alloc: Global, cover: &Cover) -> Result<String, AllocError>
     Ok(text)
 }
 
-// The token of each cell on its own line, in their order.
+// The token of each cell on its own line, in their order. An error if memory runs out.
 fn tokens_text(alloc: Global, cells: &[CellId]) -> Result<String, AllocError>
     ensures { IfOk result (λ text. string_bytes text ≡ spec.token_lines cells.now) }
 {

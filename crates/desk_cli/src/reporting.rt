@@ -20,20 +20,17 @@ pub fn report<E: Write>(alloc: Global, place: &str, text: &str, errors: &mut E)
     }
 }
 
-/// The line `uss_desk: PLACE: TEXT`, with its line feed.
-///
-/// # Errors
-///
-/// `AllocError` if memory runs out.
+// The line `uss_desk: PLACE: TEXT`, with its line feed. An error if memory runs out.
 #[tactic(auto, unfolding(crate::specs::Malformed::report_line))]
-pub fn report_line(alloc: Global, place: &str, text: &str) -> Result<String, AllocError>
+fn report_line(alloc: Global, place: &str, text: &str) -> Result<String, AllocError>
     ensures { IfOk result (λ line. string_bytes line ≡ spec.report_line place.now text.now) }
 {
     format!(in alloc; "uss_desk: {place}: {text}\n")
 }
 
-/// Prints the first malformed argument of the command line `words` and why it is so: `uss_desk: WORD: CAUSE`.
-/// Write errors are ignored; if no argument is malformed, or memory runs out, nothing is printed.
+/// Prints the first malformed argument of the command line `words`, and what it should have been, to
+/// `errors`: `uss_desk: ARGUMENT: TEXT`. The first word is the program's own name. Write errors are ignored;
+/// if `find_malformed_argument` finds none, or memory runs out, nothing is printed.
 #[tactic(auto, using(crate::proofs::ReportLemmas::nothing_malformed))]
 pub fn report_malformed_argument<E: Write>(alloc: Global, words: &[String], errors: &mut E)
     ensures { IsMalformedReported (map string_bytes words.now) (E.contents errors.old)

@@ -1,5 +1,6 @@
-//! The planning desk over a list: what the program `uss_desk` does that keeps nothing, without tables. It
-//! compiles in a fifth of the time, and answers the same bytes: both stores meet one contract.
+//! The planning desk over a list: those commands of the program `uss_desk` that keep no plans in a file,
+//! without its database. It compiles in a fifth of the time, and answers the same bytes: both stores meet one
+//! contract.
 #![tactic(auto)]
 
 ghost use Rattle.std.specs.Prelude.{◌≡◌, ◌||◌};
@@ -18,6 +19,7 @@ use std::env;
 use std::io::BufReader;
 use std::process::ExitCode;
 
+// Runs the program on its arguments.
 fn main(rt: HostRuntime) -> ExitCode {
     let status = match given_words(&rt) {
         Some(words) => run_words(&rt, rt.alloc(), words),
@@ -26,12 +28,13 @@ fn main(rt: HostRuntime) -> ExitCode {
     ExitCode::from(status)
 }
 
-// The words that the program was given. None if memory runs out.
+// The command line, whose first word is the program's own name. None if memory runs out.
 fn given_words(rt: &HostRuntime) -> Option<Vec<String>> {
     env::args(rt).ok()?.collect::<Vec<String>>(rt.alloc()).ok()
 }
 
-// Does what the words say, and answers the exit status. What keeps plans or serves is refused as `store`.
+// Runs the command line `words`, and returns the exit status. Commands that use a file or serve a port aren't
+// in this program: they fail with the error code `store`.
 fn run_words(rt: &HostRuntime, alloc: Global, words: Vec<String>) -> u8 {
     match read_words(alloc, words) {
         Ok(Line::Play(line)) => play_here(rt, alloc, &line),
@@ -48,7 +51,8 @@ fn run_words(rt: &HostRuntime, alloc: Global, words: Vec<String>) -> u8 {
     }
 }
 
-// Plays the requests of the standard input at an empty desk.
+// Runs `play` with the arguments `line`: answers the requests of the standard input at an empty desk, and
+// returns the exit status. If it is to use a database file or a journal, it fails with `store`.
 fn play_here(rt: &HostRuntime, alloc: Global, line: &PlayArgs) -> u8
     requires { IsPlay line.now }
 {
@@ -79,14 +83,15 @@ fn play_here(rt: &HostRuntime, alloc: Global, line: &PlayArgs) -> u8
     .status
 }
 
-// Whether a line keeps plans in a file, or its requests in a folder.
+// Whether `play` with the arguments `line` keeps plans in a file, or requests in a folder.
 fn keeps(line: &PlayArgs) -> bool
     ensures { result ≡ (is_some (file_of line.now.desk.database) || is_some line.now.desk.folder) }
 {
     line.desk.database.path().is_some() || line.desk.folder.is_some()
 }
 
-// Reports which of the words is malformed, prints the error code, and answers its exit status.
+// Prints which argument is malformed, and then the error code `value`; returns its exit status. If memory
+// runs out, only the error code is printed.
 fn fail_for_a_word(rt: &HostRuntime) -> u8 {
     if let Some(words) = given_words(rt) {
         report_malformed_argument(rt.alloc(), &words, &mut rt.stderr());
@@ -94,7 +99,7 @@ fn fail_for_a_word(rt: &HostRuntime) -> u8 {
     fail(rt, ErrorCode::Value)
 }
 
-// Prints the error code of a failure, and answers its exit status.
+// Prints the error code `failure`, and returns its exit status.
 fn fail(rt: &HostRuntime, failure: ErrorCode) -> u8 {
     report_exit(&mut rt.stderr(), Err(failure)).status
 }

@@ -1,6 +1,6 @@
 -- What a desk at a port prints, and what its connections leave.
-use Rattle.std.specs.Prelude.{ℕ, ◌+◌, ◌*◌, ◌/◌, ℤ, pos, int_le, Option, Some, None, if◌then◌else◌, ◌≡◌, ◌≢◌, ◌≤◌, ◌⊎◌, ⊤, Bool, true, false, List, [], ◌∷◌, ◌++◌, All, map, length, codes, decimal, IfSome, option_to_list, Result, Ok, Err, OnOk}
-use Rattle.std.specs.Result.{IsErrAnd}
+use Rattle.std.specs.Prelude.{ℕ, ◌+◌, ◌*◌, ◌/◌, ℤ, pos, int_le, Option, Some, None, if◌then◌else◌, ◌≡◌, ◌≢◌, ◌<◌, ◌≤◌, ◌⊎◌, ⊤, Bool, true, false, List, [], ◌∷◌, ◌++◌, All, map, length, codes, decimal, IfSome, option_to_list, Result, Ok, Err, OnOk}
+use Rattle.std.specs.{Result.IsErrAnd, Time.FitsClock}
 use Rattle.volume4d.specs.VolumeLimits.{max_second}
 use Rattle.desk_run.specs.Verdicts.{DeskWorld}
 use Rattle.io_ends.specs.declared.serving.{Served.Served, Served.TheVariants.Answered, Served.TheVariants.End, ServeFault.ServeFault}
@@ -22,6 +22,12 @@ patience = 10 * second
 abbrev pub patience_end : Option ℕ → ℕ → ℕ
 patience_end None now = now + patience
 patience_end (Some last) now = last
+
+-- a read or write that begins now may still wait: its deadline is later. If it sets the deadline, the clock has
+-- to reach so far
+abbrev pub HasTimeLeft : Option ℕ → ℕ → Type 0
+HasTimeLeft None now = FitsClock (now + patience)
+HasTimeLeft (Some last) now = now < last
 
 -- the moment so many nanoseconds after 1970, in whole seconds, rounded down; None if it is out of range
 abbrev pub moment_at : ℕ → Option ℤ

@@ -3,11 +3,11 @@
 ghost use Rattle.desk_program.specs.PortGiven.{PortGiven};
 
 /// The main theorem about what the clients of a port were sent, if the storage is intact and the port reports
-/// what it closes. An answer that was sent whole is decided, byte for byte, by its request, its moment, the
-/// desk's settings, what its operator owns, and the greatest priority that others hold at each point.
-/// Requests and enrolments of others don't change what an operator owns. `PortGiven` states this part by
-/// part. The premises of its parts `served` and `played` are what the clauses of these names, of `serve` and
-/// of `play_port`, state of a desk that has begun to serve.
+/// what it closes. An answer that was sent whole is decided, byte for byte, by its request, the second at
+/// which that was decided, the desk's settings, the ceiling and the plans of its operator, and the greatest
+/// priority that plans of others have at each point. Requests and enrolments of others don't change an
+/// operator's ceiling and plans. `PortGiven` states this part by part. Its parts `served` and `played` begin
+/// with what the clause `served` of `serve` and the clause `played` of `play_port` ensure.
 pub fn port_given()
     ensures { PortGiven }
 {}

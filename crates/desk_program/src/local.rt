@@ -1,4 +1,5 @@
-//! A TCP port of 127.0.0.1, whose connections get their timestamps from the clock.
+//! A TCP port of 127.0.0.1, whose connections get their timestamps from the clock. The moment of a request is
+//! the timestamp at which the desk decides it.
 
 ghost use Rattle.std.specs.Prelude.{◌≡◌, ◌≢◌, None, Some, Err, Ok, IfErr, IfOk, IsSome, OnOk, codes, option_map, string_bytes};
 ghost use Rattle.std.specs.{IoError.error_kind, Result.is_ok, Time.system_time_nanos};
@@ -30,8 +31,9 @@ pub struct LocalPort<'s, N: Net, C, G: Drop, E> {
 }
 
 impl<'s, N: Net, C: Clock, G: EnrolmentSource + Drop, E: Write> LocalPort<'s, N, C, G, E> {
-    /// A port of the network `net` that doesn't listen yet. If `listen` fails later, the cause is reported to
-    /// `errors`; a failed write there is ignored.
+    /// A port of the network `net` that doesn't listen yet. `clock` gives the timestamps, `enrolment_source`
+    /// the new enrolments. If `listen` fails later, the cause is printed to `errors`; a failed write there is
+    /// ignored.
     pub fn new(
         net: &'s N,
         clock: &'s C,
@@ -75,7 +77,8 @@ impl<'s, N: Net, C: Clock, G: EnrolmentSource + Drop, E: Write> Port for LocalPo
 
     type Output = DeadlineStream<'s, N::Stream, C>;
 
-    // Opens the port `number` of 127.0.0.1, or reports why it can't be opened.
+    // Opens the port `number` of 127.0.0.1. If that fails, prints why to `errors`, and the error is
+    // `Network`.
     fn listen(&mut self, number: u16) -> Result<(), ErrorCode>
         ensures listens { Listens unreported unreported number (is_ok result) }
         ensures fault { IfErr result IsPortError }
@@ -98,13 +101,15 @@ impl<'s, N: Net, C: Clock, G: EnrolmentSource + Drop, E: Write> Port for LocalPo
         }
     }
 
-    // Accepts the connection first, so that the enrolments that were added while it was awaited are found.
+    // Waits for the next connection, keeps it for `take`, and returns the new enrolments. It looks for them
+    // after the wait, to find those that were added meanwhile.
     fn newly_enrolled(&mut self, alloc: Global) -> Result<Vec<Enrolment>, ErrorCode> {
         self.waiting = Some(self.next_stream()?);
         self.enrolment_source.look(alloc)
     }
 
-    // Reads the clock after the connection was accepted: that is the moment of its request.
+    // Takes the connection that is kept, or else accepts one, and reads the clock after that: this is the
+    // moment of its request.
     fn take(
         &mut self,
         alloc: Global,
@@ -117,7 +122,8 @@ impl<'s, N: Net, C: Clock, G: EnrolmentSource + Drop, E: Write> Port for LocalPo
         connection_of(alloc, self.clock, now, stream)
     }
 
-    // Discards what the client still sends, and drops the connection. I/O errors are ignored.
+    // Discards what the client still sends, and drops the connection. It waits for more only if the request
+    // wasn't read whole. I/O errors are ignored.
     fn close(
         &mut self,
         mut input: BufReader<DeadlineStream<'s, N::Stream, C>>,
@@ -133,8 +139,8 @@ impl<'s, N: Net, C: Clock, G: EnrolmentSource + Drop, E: Write> Port for LocalPo
     }
 }
 
-// Reports to `errors` that the port `number` can't be opened, and its `cause`. If memory runs out, nothing is
-// reported; a failed write is ignored.
+// Prints a line to `errors` that says why the port `number` can't be opened (`cause`). If memory runs out,
+// nothing is printed; a failed write is ignored.
 fn report_port<E: Write>(alloc: Global, number: u16, cause: &str, errors: &mut E)
     ensures { IsWrittenAsFarAsPossible (spec.port_line number cause.now) (E.contents errors.old)
         (E.contents errors.new) }
@@ -151,7 +157,7 @@ fn report_line<E: Write>(line: &str, errors: &mut E)
     let _ = write_whole(errors, line.as_bytes());
 }
 
-// The line that reports why the port `number` can't be opened.
+// The line that says why the port `number` can't be opened (`cause`). An error if memory runs out.
 fn port_text(alloc: Global, number: u16, cause: &str) -> Result<String, AllocError>
     ensures { IfOk result (λ text. string_bytes text ≡ spec.port_line number cause.now) }
 {
@@ -200,8 +206,9 @@ fn stream_of<T: Drop>(accepted: io::Result<T>) -> Result<Option<T>, ErrorCode>
     }
 }
 
-// The connection over `stream`, which was accepted at the time `now`. Both directions get deadlines. `Clock`
-// if `now` is out of range, `Network` if the stream can't be cloned, `Memory`.
+// The connection over `stream`, which was accepted at the time `now`. Both directions get deadlines by
+// `clock`. `Clock` if `now` is out of range (see `moment_in`), `Network` if the stream can't be cloned,
+// `Memory` if memory runs out.
 fn connection_of<'s, T, C: Clock>(
     alloc: Global,
     clock: &'s C,
@@ -215,9 +222,8 @@ where
 {
     let moment = moment_in(now).ok_or(ErrorCode::Clock)?;
     let other = stream.try_clone().map_err(|_| ErrorCode::Network)?;
-    let input = BufReader::new(alloc, DeadlineStream::new(stream, clock)).map_err(
-        |_| ErrorCode::Memory,
-    )?;
+    let input = DeadlineStream::new(stream, clock);
+    let input = BufReader::new(alloc, input).map_err(|_| ErrorCode::Memory)?;
     Ok(ClientStream {
         moment,
         input,
@@ -225,8 +231,8 @@ where
     })
 }
 
-// The timestamp of a system time, in whole seconds, rounded down; `None` if it isn't from 0 to `MAX_SECOND`
-// seconds after 1970.
+// The timestamp of a system time, in whole seconds since 1970, rounded down. None if it isn't from 0 to
+// `MAX_SECOND`.
 fn moment_in(time: SystemTime) -> Option<Moment>
     ensures { option_map (λ moment. moment.second) result ≡ moment_at (system_time_nanos time) }
 {

@@ -1,4 +1,6 @@
-//! The lines that `check` and `copy` print: what a database file has, and how much was copied.
+//! The lines that `check` and `copy` print: what a database file has, and how much was copied. The area of a
+//! plan is stored as spans, runs of cells that follow each other on the S2 curve. A plan is live until it is
+//! closed. The functions that make a text return an error if memory runs out.
 
 ghost use Rattle.std.specs.Prelude.{◌≡◌, ℕ, IfOk, List, codes, if◌then◌else◌, string_bytes};
 ghost use Rattle.desk_cli.specs.Exits.{ending};
@@ -69,8 +71,8 @@ pub fn print_copied<W: Write, E: Write>(
     print_line(copied_text(alloc, operators, plans), output, errors)
 }
 
-// Prints `text`, the last line of a command; if it is an error, the command fails with `Memory`. Returns the
-// exit report. An error code goes to `errors`; a failed write there is ignored.
+/// Prints `text`, the last line of a command; if it is an error, the command fails with `Memory`. Returns the
+/// exit report. An error code goes to `errors`; a failed write there is ignored.
 pub(crate) fn print_line<W: Write, E: Write>(
     text: Result<String, AllocError>,
     output: &mut W,
@@ -100,7 +102,8 @@ fn checked_text(alloc: Global, file: &CheckedFile) -> Result<String, AllocError>
     Ok(text)
 }
 
-// The first part: the schema, whether pages have checksums, and the number of operators.
+// The first part of the line of `check`: the schema, whether pages have checksums, and the number of
+// operators.
 #[tactic(auto, unfolding(crate::specs::Enrolling::tables_text))]
 fn tables_text(alloc: Global, file: &CheckedFile) -> Result<String, AllocError>
     ensures { IfOk result (λ text. string_bytes text ≡ spec.tables_text file.now) }
@@ -111,7 +114,7 @@ fn tables_text(alloc: Global, file: &CheckedFile) -> Result<String, AllocError>
     format!(in alloc; "schema {schema}, sums {sums}, {operators} operators, ")
 }
 
-// The second part: the numbers of plans, live plans and rows of spans.
+// The second part of the line of `check`: the numbers of plans, of live plans, and of spans.
 #[tactic(auto, unfolding(crate::specs::Enrolling::plans_text))]
 fn plans_text(alloc: Global, file: &CheckedFile) -> Result<String, AllocError>
     ensures { IfOk result (λ text. string_bytes text ≡ spec.plans_text file.now) }
@@ -122,7 +125,7 @@ fn plans_text(alloc: Global, file: &CheckedFile) -> Result<String, AllocError>
     format!(in alloc; "{plans} plans, {live} live, {spans} spans")
 }
 
-// The number of the schema: 1 if the rows are those of the old schema, else 2.
+// The number of a file's schema: 1 if it is the old one, else 2.
 fn schema_of(is_old: bool) -> u8
     ensures { result ≡ (if is_old then 1 else 2) }
 {
@@ -136,7 +139,8 @@ fn yes_or_no(is_so: bool) -> &'static str
     if is_so { "yes" } else { "no" }
 }
 
-// The third part: the sizes of the file and its WAL in megabytes, rounded down to one decimal.
+// The third part of the line of `check`: the sizes of the file and its WAL in megabytes, rounded down to one
+// decimal.
 #[tactic(auto, unfolding(crate::specs::Enrolling::sizes_text))]
 fn sizes_text(alloc: Global, file: &CheckedFile) -> Result<String, AllocError>
     ensures { IfOk result (λ text. string_bytes text ≡ spec.sizes_text file.now) }
@@ -150,7 +154,7 @@ fn sizes_text(alloc: Global, file: &CheckedFile) -> Result<String, AllocError>
     format!(in alloc; ", {whole}.{part} MB, {log_whole}.{log_part} MB in the log")
 }
 
-// The last part: the most rows of spans of one operator, and the most cells of one.
+// The last part of the line of `check`: the most spans of one operator, and the most cells of one.
 #[tactic(auto, unfolding(crate::specs::Enrolling::most_text))]
 fn most_text(alloc: Global, file: &CheckedFile) -> Result<String, AllocError>
     ensures { IfOk result (λ text. string_bytes text ≡ spec.most_text file.now) }

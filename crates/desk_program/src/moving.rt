@@ -24,7 +24,7 @@ pub fn print_migrated<W: Write, E: Write>(
     print_line(migrated_text(alloc, count), output, errors)
 }
 
-// The line of `migrate`: `count` is the number of plans.
+// The line of `migrate`: how many plans were migrated (`count`). An error if memory runs out.
 #[tactic(auto, unfolding(crate::specs::Enrolling::migrated_line))]
 fn migrated_text(alloc: Global, count: u32) -> Result<String, AllocError>
     ensures { IfOk result (λ text. string_bytes text ≡ spec.migrated_line count) }

@@ -1,4 +1,6 @@
-//! The traits through which a desk gets its connections and new enrolments.
+//! The traits through which a desk gets its connections and new enrolments. While a desk serves, the
+//! administrator may enrol more operators, or change their ceilings: the greatest priorities that they may
+//! use.
 
 ghost use Rattle.std.specs.Prelude.{◌≡◌, IfOk, IfErr, OnOk, OnErr};
 ghost use Rattle.std.specs.Result.{is_ok};
@@ -69,7 +71,8 @@ pub trait Port {
     ///
     /// # Errors
     ///
-    /// `Network` if no connection can be accepted, `Memory`; `Broken` if the journal can't be written.
+    /// `Network` if no connection can be accepted, `Memory` if memory runs out; `Broken` if the port keeps a
+    /// journal of its requests that can't be written.
     fn newly_enrolled(&mut self, alloc: Global) -> Result<Vec<Enrolment>, ErrorCode>
         ensures small { IfOk result (λ newly_enrolled. AreEnrolments newly_enrolled.items) }
         ensures brings { IfOk result (λ newly_enrolled.
@@ -81,8 +84,9 @@ pub trait Port {
     ///
     /// # Errors
     ///
-    /// `Network` if there is none, `Clock` if the clock gives no second in range, `Memory`; `Broken` if the
-    /// journal can't be written: the client was answered that the desk failed.
+    /// `Network` if there is none, `Clock` if the clock gives no second in range, `Memory` if memory runs
+    /// out; `Broken` if the port keeps a journal that can't be written: the client was answered that the desk
+    /// failed.
     fn take(&mut self, alloc: Global) -> Result<ClientStream<Self::Input, Self::Output>, ErrorCode>
         ensures taken { IfOk result (λ c. TakesArrival (traffic self.old) (traffic self.new)
             (arrived c.moment.second (Self.Input.remaining c.input))) }
@@ -95,8 +99,8 @@ pub trait Port {
     ///
     /// # Errors
     ///
-    /// `Broken` if the journal can't be written: the client was answered that the desk failed. The connection
-    /// has ended all the same.
+    /// `Broken` if the port keeps a journal that can't be written: the client was answered that the desk
+    /// failed. The connection has ended all the same.
     fn close(
         &mut self,
         input: Self::Input,

@@ -1,4 +1,6 @@
-//! The commands `play` and `enrol` at an open desk, and the enrolments of all commands.
+//! The commands `play` and `enrol` at an open desk, and the enrolments of all commands. The terms of a desk
+//! are its settings. An enrolment has an operator's name and its ceiling, the greatest priority that it may
+//! use.
 
 ghost use Rattle.std.specs.Prelude.{◌≡◌, ◌≤◌, IfErr, IfOk, string_bytes};
 ghost use Rattle.desk_run.specs.{Calls.FindsOnly, Calls.IsBreakdown, Calls.IsStoreFaultCounted, Verdicts.world_of};
@@ -80,7 +82,7 @@ pub fn enrol<S: PlanStore, W: Write, E: Write>(
     }
 }
 
-// The line of `enrol`: the operator's name and its ceiling.
+// The line of `enrol`: the operator's name and its ceiling. An error if memory runs out.
 #[tactic(auto, unfolding(crate::specs::Enrolling::enrolled_line))]
 fn enrolled_text(alloc: Global, enrolment: &Enrolment) -> Result<String, AllocError>
     ensures { IfOk result (λ text. string_bytes text ≡ enrolling.enrolled_line enrolment.now) }
@@ -90,7 +92,7 @@ fn enrolled_text(alloc: Global, enrolment: &Enrolment) -> Result<String, AllocEr
     format!(in alloc; "enrolled {operator} {ceiling}\n")
 }
 
-// The result of a run over an input: an error unless it ended with the input.
+// The result of `play`, by why it read no more requests: an error unless the input ended.
 fn play_result(ended: PlayEnd) -> Result<(), ErrorCode>
     ensures { result ≡ done_unless (spec.failure_after ended) }
 {
@@ -130,8 +132,8 @@ pub fn set_up<S: PlanStore>(
 }
 
 /// Enrols these operators while a desk serves, in the order given; one that is enrolled already gets this
-/// ceiling. If there are none, the desk is left as it is. After a crash on the way, a start finds those that
-/// were made, or one more (`found`).
+/// ceiling. If there are none, the desk is left as it is. After a crash on the way, a start finds the
+/// enrolments that were made, or one more (`found`).
 ///
 /// # Errors
 ///

@@ -1,4 +1,4 @@
-//! A command run at an open desk, over any store.
+//! A command run at an open desk, over any store. Its exit report has the exit status.
 
 ghost use Rattle.std.specs.Prelude.{IfErr, IfOk};
 ghost use Rattle.std.specs.Option.{IsSomeAnd};
@@ -51,7 +51,8 @@ pub fn run_opened<S: PlanStore + Drop, P: Port, R: Read + Drop, W: Write + Drop,
     }
 }
 
-// Runs the command `action` at a desk, and returns the exit report. Only `serve` uses the port.
+// Runs the command `action` at a desk, and returns the exit report. Only `serve` uses `port`, and only `play`
+// reads the input.
 fn carry_out<S: PlanStore, P: Port, R: Read + Drop, W: Write + Drop, E: Write + Drop>(
     alloc: Global,
     action: DeskCommand<'_>,

@@ -25,8 +25,9 @@ const MAX_ANSWERED: u32 = 1_000_000;
 /// The HTTP status of an answer that says that the desk failed.
 const SERVER_ERROR: u16 = 500;
 
-/// Runs the command `serve` with the arguments `line` at a desk, and returns the exit report. An error code
-/// goes to `errors`; a failed write there is ignored.
+/// Runs the command `serve` with the arguments `line` at a desk: sets its terms (its settings), enrols
+/// operators, opens the port, prints a line to `output` that says so, and serves the connections. Returns the
+/// exit report. An error code goes to `errors`; a failed write there is ignored.
 pub fn serve<S: PlanStore, P: Port, W: Write, E: Write>(
     alloc: Global,
     port: &mut P,
@@ -49,8 +50,8 @@ pub fn serve<S: PlanStore, P: Port, W: Write, E: Write>(
     report_exit(errors, try_serve(alloc, port, line, desk, output))
 }
 
-// Sets the terms of a desk, enrols operators, opens the port, and serves the connections. If an enrolment
-// fails, the port isn't opened.
+// Does the work of `serve`, and returns the first error, which ends it. If an enrolment fails, the port isn't
+// opened.
 // Long: what is sent, the crash states, what is printed and when, and why it ends have a clause each.
 fn try_serve<S: PlanStore, P: Port, W: Write>(
     alloc: Global,
@@ -97,7 +98,7 @@ fn listen<P: Port, W: Write>(
     write_text(output, &text)
 }
 
-// The line that says that the port number `port` of 127.0.0.1 is open.
+// The line that says that the port number `port` of 127.0.0.1 is open. An error if memory runs out.
 fn listening_text(alloc: Global, port: u16) -> Result<String, AllocError>
     ensures { IfOk result (λ text. string_bytes text ≡ listening_line port) }
 {
@@ -130,7 +131,8 @@ pub fn play_port<S: PlanStore, P: Port>(
     serve_connections(alloc, port, MAX_ANSWERED, desk)
 }
 
-// Serves `count` connections, one after the other, up to the first at which the desk stops.
+// Serves `count` connections, one after the other, up to the first at which the desk stops. The error says
+// why it stopped.
 fn serve_connections<S: PlanStore, P: Port>(
     alloc: Global,
     port: &mut P,
@@ -148,8 +150,8 @@ fn serve_connections<S: PlanStore, P: Port>(
     Ok(())
 }
 
-// Waits for the next connection, makes the new enrolments, and answers its request. Faults of the client,
-// such as a request that is cut short, don't stop the desk.
+// Waits for the next connection, makes the new enrolments, answers its request, and closes it. The error says
+// why the desk stops. Faults of the client, such as a request that is cut short, don't stop it.
 fn serve_connection<S: PlanStore, P: Port>(
     alloc: Global,
     port: &mut P,
@@ -174,8 +176,9 @@ fn serve_connection<S: PlanStore, P: Port>(
     exchange_result(served, closed)
 }
 
-// How a request ended, as the port needs to know when its connection is closed. The request counts as whole
-// unless it was answered though its end isn't known.
+// How a request ended, as the port needs to know when its connection is closed; `served` is the result of
+// serving it. The request counts as whole unless it was answered though its end isn't known (`framed` is
+// false).
 fn outcome_of(served: &Result<Served, ServeFault>) -> ExchangeEnd
     ensures { result ≡ spec.outcome_of served.now }
 {
@@ -185,8 +188,8 @@ fn outcome_of(served: &Result<Served, ServeFault>) -> ExchangeEnd
     }
 }
 
-// The result of one connection: why the desk stops after its request, if it does; else the result of closing
-// the connection.
+// The result of one connection, whose request was `served` and which was `closed` with these results: why the
+// desk stops after the request, if it does; else the result of closing.
 fn exchange_result(
     served: Result<Served, ServeFault>,
     closed: Result<(), ErrorCode>,

@@ -1,8 +1,8 @@
 //! Reads and writes with deadlines, so that a client that stalls doesn't block the desk.
 
-ghost use Rattle.std.specs.Prelude.{◌≡◌, ◌+◌, ◌≤◌, None, Some, IfSome, IfOk, IsSomeAnd, option_map};
-ghost use Rattle.std.specs.{Duration.as_nanos, Io.ReadsAtMost, Io.WritesAtMost, Io.KnownBytes.ReadConsumes, Io.KnownBytes.WriteAppends, Time.instant_nanos};
-ghost use Rattle.desk_program.specs.Serving.{patience, patience_end};
+ghost use Rattle.std.specs.Prelude.{◌≡◌, ◌↔◌, ◌+◌, ◌≤◌, None, Ok, Some, IfSome, IfOk, IsErrAnd, IsSome, IsSomeAnd, MatchOption, option_map};
+ghost use Rattle.std.specs.{Duration.as_nanos, IoError.error_kind, Io.ReadsAtMost, Io.WritesAtMost, Io.KnownBytes.ReadConsumes, Io.KnownBytes.WriteAppends, Time.instant_nanos};
+ghost use Rattle.desk_program.specs.Serving.{HasTimeLeft, patience_end};
 
 use std::io::{self, ErrorKind, Read, Write};
 use std::net::{OpenStream, Shutdown};
@@ -57,7 +57,7 @@ impl<T: Read + OpenStream, C: Clock> Read for DeadlineStream<'_, T, C> {
             room.new }
         ensures kept { IfSome self.old.end (λ last. self.new.end ≡ Some last) }
     {
-        let left = time_left(Instant::now(self.clock)?, &mut self.end)?;
+        let left = or_timed_out(time_left(Instant::now(self.clock)?, &mut self.end))?;
         self.stream.set_read_timeout(Some(left))?;
         self.stream.read(room)
     }
@@ -73,18 +73,21 @@ impl<T: Write + OpenStream, C: Clock> Write for DeadlineStream<'_, T, C> {
             bytes.now }
         ensures kept { IfSome self.old.end (λ last. self.new.end ≡ Some last) }
     {
-        let left = time_left(Instant::now(self.clock)?, &mut self.end)?;
+        let left = or_timed_out(time_left(Instant::now(self.clock)?, &mut self.end))?;
         self.stream.set_write_timeout(Some(left))?;
         self.stream.write(bytes)
     }
 
+    // Flushes the stream below, without a deadline.
     fn flush(&mut self) -> io::Result<()> {
         self.stream.flush()
     }
 }
 
-/// Shuts down the answer (`output`) to a request that wasn't read whole, and discards the rest of the request
-/// for a while: closing a connection with unread bytes may drop an answer that isn't delivered yet.
+/// Shuts down the answer (`output`) to a request that wasn't read whole, and then discards the rest of the
+/// request: closing a connection with unread bytes may drop an answer that isn't delivered yet. It ends with
+/// the input, or after `REST_READS` reads. The error is that of a read, for instance if nothing came for half
+/// a second.
 pub(crate) fn discard_rest<T: Read + OpenStream, C: Clock>(
     input: &mut DeadlineStream<'_, T, C>,
     output: &DeadlineStream<'_, T, C>,
@@ -103,7 +106,8 @@ pub(crate) fn discard_rest<T: Read + OpenStream, C: Clock>(
 
 /// Shuts down the answer (`output`) to a request that was read whole, and discards what has come after it
 /// without waiting for more: closing a connection with unread bytes may drop an answer that isn't delivered
-/// yet. The error is `WouldBlock` if nothing more is there.
+/// yet. It ends with the input, or after `EXTRA_READS` reads. The error is `WouldBlock` if nothing more is
+/// there.
 pub(crate) fn discard_extra<T: Read + OpenStream, C: Clock>(
     input: &mut DeadlineStream<'_, T, C>,
     output: &DeadlineStream<'_, T, C>,
@@ -121,7 +125,8 @@ pub(crate) fn discard_extra<T: Read + OpenStream, C: Clock>(
     Ok(())
 }
 
-// Reads into `room`, waiting `REST_WAIT` milliseconds at most, and not past the deadline.
+// Reads into `room`, waiting `REST_WAIT` milliseconds at most, and not past the deadline of `input`. Returns
+// how many bytes were read, 0 at the end of the input.
 fn read_briefly<T: Read + OpenStream, C: Clock>(
     input: &mut DeadlineStream<'_, T, C>,
     room: &mut [u8],
@@ -131,45 +136,36 @@ fn read_briefly<T: Read + OpenStream, C: Clock>(
         room.new }
     ensures kept { IfSome input.old.end (λ last. input.new.end ≡ Some last) }
 {
-    let left = time_left(Instant::now(input.clock)?, &mut input.end)?;
+    let left = or_timed_out(time_left(Instant::now(input.clock)?, &mut input.end))?;
     let wait = left.min(Duration::from_millis(REST_WAIT));
     input.stream.set_read_timeout(Some(wait))?;
     input.stream.read(room)
 }
 
-// How long a read or write that begins at `now` may wait, until the deadline `end`. The first one sets the
-// deadline to `PATIENCE` seconds later, and no other moves it. The error `TimedOut` if the deadline has come.
-fn time_left(now: Instant, end: &mut Option<Instant>) -> io::Result<Duration>
+// How long a read or write that begins at `now` may wait, more than 0: until the deadline `end`. If there is
+// none yet, sets it to `PATIENCE` seconds after `now`; else it stays. None if the deadline has come, or if the
+// clock can't count to it.
+fn time_left(now: Instant, end: &mut Option<Instant>) -> Option<Duration>
     ensures kept { IfSome end.old (λ last. end.new ≡ Some last) }
-    ensures first { end.old ≡ None → IfOk result (λ left. as_nanos left ≡ patience) }
-    ensures left { IfOk result (λ left. IsSomeAnd end.new (λ last.
+    ensures left { IfSome result (λ left. IsSomeAnd end.new (λ last.
         instant_nanos now + as_nanos left ≡ instant_nanos last)) }
-    ensures deadline { IfOk result (λ left. instant_nanos now + as_nanos left
+    ensures deadline { IfSome result (λ left. instant_nanos now + as_nanos left
         ≡ patience_end (option_map instant_nanos end.old) (instant_nanos now)) }
+    ensures some { IsSome result ↔ HasTimeLeft (option_map instant_nanos end.old) (instant_nanos now) }
 {
     let last = match *end {
         Some(last) => last,
-        None => end_after(now)?,
+        None => now.checked_add(Duration::from_secs(PATIENCE))?,
     };
     *end = Some(last);
-    left_until(last, now)
+    last.checked_duration_since(now)
+        .filter(|left| !left.is_zero())
 }
 
-// The deadline if the first read or write begins at `now`: `PATIENCE` seconds later. The error `TimedOut` if
-// the clock has no such time.
-fn end_after(now: Instant) -> io::Result<Instant>
-    ensures { IfOk result (λ end. instant_nanos end ≡ instant_nanos now + patience) }
+// The time `left` for a read or write; the error `TimedOut` if none is left.
+fn or_timed_out(left: Option<Duration>) -> io::Result<Duration>
+    ensures { MatchOption left (IsErrAnd result (λ error. error_kind error ≡ ErrorKind.TimedOut))
+        (λ time. result ≡ Ok time) }
 {
-    now.checked_add(Duration::from_secs(PATIENCE))
-        .ok_or(io::Error::from(ErrorKind::TimedOut))
-}
-
-// How long it is from `now` until the deadline `end`, not 0; the error `TimedOut` if that has come.
-fn left_until(end: Instant, now: Instant) -> io::Result<Duration>
-    ensures { IfOk result (λ left. instant_nanos now + as_nanos left ≡ instant_nanos end) }
-{
-    match end.checked_duration_since(now) {
-        Some(left) if !left.is_zero() => Ok(left),
-        _ => Err(io::Error::from(ErrorKind::TimedOut)),
-    }
+    left.ok_or(io::Error::from(ErrorKind::TimedOut))
 }

@@ -2,7 +2,7 @@ use Rattle.std.proofs.Common.{◌≡◌, ◌∙◌, ◌++◌, ◌∷◌, [], ap,
 use Rattle.clap.specs.Simple.{App, Shape}
 use Rattle.clap.specs.Walk.{Rule, is_empty, rule_of}
 use Rattle.desk_cli.proofs.CommandLemmas.{simple_local, simple_kind, words_more}
-use Rattle.desk_cli.proofs.command.add_arguments.Goals as goal
+use Rattle.desk_cli.proofs.command.make_subcommand.Goals as goal
 
 pub loop-word-preserved : goal.loop-word-preserved
 loop-word-preserved c =
@@ -17,5 +17,5 @@ loop-word-preserved c =
     ap (λ (p : App). p.top) (c.in_ok-command.ensures.shape local)
     ∙ (ap₂ (λ (s : Shape) (r : Rule). record s { rules = s.rules ++ r ∷ [] }) c.loop-word.invariant
     c.make_arg.ensures
-    ∙ sym (words_more c.args.form.now.name.now c.args.words.now c.loop-word.word-index _
+    ∙ sym (words_more c.args.form.now.name.now c.args.form.now.words.now c.loop-word.word-index _
     c.loop-word-test.true))
