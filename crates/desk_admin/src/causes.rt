@@ -1,5 +1,5 @@
-//! Reports to the administrator why a database can't be opened. The clauses say that text is appended to
-//! `errors`, perhaps none, and not what it says.
+//! Reports to the administrator why a database can't be opened. The contracts of the reports say only that
+//! text, perhaps none, is appended to `errors`; they don't say which.
 
 ghost use Rattle.std.specs.Prelude.{◌≡◌, IfErr, IfOk, None};
 ghost use Rattle.desk_program.specs.Keeping.{bytes_written};
@@ -83,22 +83,22 @@ pub fn report_cause<E: Write>(
     report_text(host.alloc(), name, cause, errors);
 }
 
-// Why the file at `path` is no valid database. It is read once more to find its table order or the invalid
-// part.
+// Why the file at `path` is no valid database. It is read once more, to learn whether its tables are in
+// another order than a desk's, or which part of it is invalid.
 fn desk_cause(host: LocalHost<'_>, path: &str) -> &'static str
     ensures { IsNoDeskText result.now }
 {
     if read_mode(host.rt, path, false) == ReadMode::OtherOrder {
         return order_text();
     }
-    named_cause(part_of(part_at(host.rt, path, Unknown)))
+    named_cause(part_of(&part_at(host.rt, path, Unknown)))
 }
 
 // The invalid part that was found in a file, by the result of `part_at` (`named`); `None` if none was found
-// or the file couldn't be opened. The connection to it is closed.
-fn part_of<D: Disk + Drop>(named: Result<Named<D>, NotOpened<D>>) -> Option<InvalidPart>
-    ensures named { IfOk named (λ it. result ≡ it.part) }
-    ensures none { IfErr named (λ _. result ≡ None) }
+// or the file couldn't be opened.
+fn part_of<D: Disk>(named: &Result<Named<D>, NotOpened<D>>) -> Option<InvalidPart>
+    ensures named { IfOk named.now (λ it. result ≡ it.part) }
+    ensures none { IfErr named.now (λ _. result ≡ None) }
 {
     match named {
         Ok(named) => named.part(),
@@ -106,22 +106,15 @@ fn part_of<D: Disk + Drop>(named: Result<Named<D>, NotOpened<D>>) -> Option<Inva
     }
 }
 
-// Why a file is no valid database, in words, by the invalid part that was found (`found`). If none was found,
-// the words list what may be wrong.
+// Why a file is no valid database, in words that name the table, by the invalid part that was found
+// (`found`). If none was found, the words list what may be wrong. Rows "of no content" are rows that no desk
+// writes.
 fn named_cause(found: Option<InvalidPart>) -> &'static str
     ensures { result.now ≡ spec.named_text found }
 {
-    match found {
-        Some(part) => part_cause(part),
-        None => "no table, other tables than a desk's, or rows of no content",
-    }
-}
-
-// Why a file with this invalid part is no valid database, in words that name the table. Rows "of no content"
-// are rows that no desk writes.
-fn part_cause(part: InvalidPart) -> &'static str
-    ensures { result.now ≡ spec.part_text part }
-{
+    let Some(part) = found else {
+        return "no table, other tables than a desk's, or rows of no content";
+    };
     match part {
         InvalidPart::NoTable => "no table",
         InvalidPart::OtherTables => "other tables than a desk's",

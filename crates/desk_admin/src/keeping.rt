@@ -3,7 +3,7 @@
 ghost use Rattle.std.specs.Prelude.{◌≡◌, ℕ, [], List, IfErr, IfOk, IfSome, Ok, OnErr, OnOk, option_copied, string_bytes, unwrap_or};
 ghost use Rattle.sqlite_wal.specs.{Files.image_at, Recovery.Image};
 ghost use Rattle.desk_store.specs.World.{World};
-ghost use Rattle.desk_program.specs.{Enrolling.IsTextPrinted, Enrolling.copied_line, Keeping.bytes_written, Keeping.ended};
+ghost use Rattle.desk_program.specs.Keeping.{bytes_written, ended};
 ghost use Rattle.sqlite.specs.{Files.file_state};
 ghost use Rattle.desk_cli.specs.Lines.{file_of};
 ghost use Rattle.table_load.specs.Moving.{AreStatsOf, has_others};
@@ -15,14 +15,13 @@ ghost use Rattle.host_files.specs.Paths.{steps_of};
 
 use crate::causes::{report_cause, report_database};
 use crate::unopened::{FileOpenError, OpenError, open_failure};
-use db_file::has_checksums;
 use desk_cli::{CopyArgs, Database, ErrorCode, ExitReport, report_exit};
 use desk_host::room::make_room;
 use desk_program::{CheckedFile, print_checked, print_copied};
 use desk_tables::{
     CheckpointError, Copied, CopyFault, DbStats, FilesFault, OpenFault, copy_from, look_at,
 };
-use host_files::files::{Found, HostFiles, LocalHost};
+use host_files::files::{Found, HostFiles, LocalHost, has_checksums};
 use host_files::naming::{Folder, NewFile, name_with, names_of, publish};
 use host_files::reporting::report_text;
 use sqlite::{Connection, FileFrom, FileStore, Files, Start};
@@ -88,16 +87,12 @@ fn refused_copy<D: Disk + Drop, N: Disk + Drop>(refused: &CopyFault<D, N>) -> Co
 {
     match refused {
         CopyFault::Unread(files) => CopyError {
-            failure: open_failure(&files.fault),
             unread: Some(Snapshot::of(files)),
-            unmade: None,
-            unclosed: None,
+            ..CopyError::untried(open_failure(&files.fault))
         },
         CopyFault::Unmade(files, _) => CopyError {
-            failure: open_failure(&files.fault),
-            unread: None,
             unmade: Some(Snapshot::of(files)),
-            unclosed: None,
+            ..CopyError::untried(open_failure(&files.fault))
         },
     }
 }
@@ -167,19 +162,6 @@ pub fn check_file<F: Start, W: Write + Drop, E: Write + Drop>(
     }
 }
 
-/// The exit status in the result of `check_file`. The connection is closed.
-pub fn status_checked<D: Disk + Drop, E>(
-    checked: (
-        ExitReport<E>,
-        Result<Connection<FileStore<D>>, OpenError<D>>,
-    ),
-) -> u8
-    ensures { result ≡ checked.0.status }
-{
-    let (exit, _) = checked;
-    exit.status
-}
-
 // Reports why a database can't be read, and prints the error code `failure`, both to `errors`. A failed write
 // is ignored.
 fn report_unread<E: Write>(
@@ -229,7 +211,7 @@ pub fn look_in<F: Start>(
     let log = name_with(host.alloc(), path, "-wal")?;
     // `has_checksums` opens and closes the file, which would release the locks of a connection to it. So the
     // connection is made after that.
-    let stats = stats_at(&host, path, &log, has_checksums(host.rt, path));
+    let stats = stats_at(&host, path, &log, has_checksums(&host, path));
     match look_at(host.rt, path, start) {
         Ok((connection, holdings)) => Ok((connection, checked_file(&holdings, stats))),
         Err(refused) => Err(OpenError::of(refused)),
@@ -276,10 +258,7 @@ fn stats_at<F: HostFiles>(files: &F, path: &str, log: &str, has_checksums: bool)
 fn size_of(found: Result<Found, ErrorKind>) -> u64
     ensures { result ≡ found_size found }
 {
-    match found {
-        Ok(found) => found.len,
-        Err(_) => 0,
-    }
+    found.map_or(0, |found| found.len)
 }
 
 /// Runs the command `copy` with its arguments `words`: copies a database to a new file in `folder`, prints
@@ -312,9 +291,11 @@ pub fn copy_file<F: Start, N: Start, P: Folder, W: Write + Drop, E: Write + Drop
                 &copies.0,
                 &mut writers.errors,
             );
-            let exit = print_holdings(
+            let holdings = &copies.1.1;
+            let exit = print_copied(
                 host.alloc(),
-                &copies.1.1,
+                holdings.operators,
+                holdings.plans,
                 &mut writers.output,
                 &mut writers.errors,
             );
@@ -327,18 +308,9 @@ pub fn copy_file<F: Start, N: Start, P: Folder, W: Write + Drop, E: Write + Drop
     }
 }
 
-/// The exit status in the result of `copy_file`. All files are closed.
-pub fn status_copied<D: Disk + Drop, N: Disk + Drop, E>(
-    copied: (ExitReport<E>, Result<Copies<D, N>, CopyEnd<D, N>>),
-) -> u8
-    ensures { result ≡ copied.0.status }
-{
-    let (exit, _) = copied;
-    exit.status
-}
-
-// Reports that tables, indexes and views beside the desk's are not copied, if the `database` that `connection`
-// shows is in a file and has any. A failed write and running out of memory are ignored.
+// Reports that tables, indexes and views beside the desk's are not copied, if the `database` has any.
+// `connection` is open to it. Nothing is reported for a database in memory. A failed write and running out of
+// memory are ignored.
 fn report_others<D: Disk, E: Write>(
     alloc: Global,
     database: &Database,
@@ -357,24 +329,10 @@ fn report_others<D: Disk, E: Write>(
     }
 }
 
-// Prints how many operators and plans were copied (`holdings`), or the error code to `errors` if that write
-// fails.
-fn print_holdings<W: Write, E: Write>(
-    alloc: Global,
-    holdings: &DbStats,
-    output: &mut W,
-    errors: &mut E,
-) -> ExitReport<E>
-    ensures { IsTextPrinted (copied_line holdings.now.operators holdings.now.plans)
-        (ended E.Write result errors.old errors.new) (W.contents output.old) (W.contents output.new) }
-{
-    print_copied(alloc, holdings.operators, holdings.plans, output, errors)
-}
-
 // Copies a database, read at the path `scratch` if given, to the new file `words.to`. That is written under a
 // temporary name, and renamed once it is on the disk, so that an interrupted copy leaves nothing under the
-// final name. The cause of a failure goes to `errors`; a database in memory and running out of memory have
-// none.
+// final name. The cause of a failure goes to `errors`; none is reported for a database in memory (`Store`) or
+// if memory runs out.
 #[tactic(auto, using(host_files::proofs::lemmas::Naming::leaves_none, host_files::proofs::lemmas::Naming::leaves_all))]
 fn copy_database<F: Start, N: Start, P: Folder, E: Write>(
     host: LocalHost<'_>,
@@ -427,7 +385,8 @@ impl<'s> CopySource<'s> {
 }
 
 // Gives the new file its final name (of its `names`) if it was `copied`; else reports why not, and removes
-// what was made. If the name can't be given, that is reported too.
+// what was made. If the name can't be given, that is reported, and the file may stay under its temporary
+// name; if only the folder can't be synced, it has its final name all the same.
 fn publish_or_discard<D: Disk + Drop, N: Disk + Drop, P: Folder, E: Write>(
     host: LocalHost<'_>,
     folder: &mut P,
@@ -458,7 +417,7 @@ fn publish_or_discard<D: Disk + Drop, N: Disk + Drop, P: Folder, E: Write>(
     Ok(copies)
 }
 
-// Gives a complete new file, which has a temporary name, its final one (`names` are both). If that fails,
+// Gives a complete new file, which has a temporary name, its final one (`names` has both). If that fails,
 // this is reported to `errors`, and the error code is `Store`. A failed write and running out of memory are
 // ignored.
 #[tactic(auto, using(host_files::proofs::lemmas::Reporting::reports_nothing))]

@@ -23,7 +23,6 @@ use host_files::naming::Folder;
 use host_files::reporting::report_text;
 use sqlite::{FileFrom, Start, Unknown};
 use sqlite_disk::Disk;
-use std::alloc::Global;
 use std::io::Write;
 
 // What is reported of a file that was reordered.
@@ -71,17 +70,7 @@ pub fn reorder_for(
         takes_old,
     };
     let mut folder = host;
-    result_of(reorder(host, &mut folder, file, Unknown, &mut host.errors()))
-}
-
-/// The first part of the result of `reorder`: whether it succeeded. The scratch copy is closed.
-pub fn result_of<D: Disk + Drop>(
-    reordered: (Result<(), ErrorCode>, Option<ReadResult<D>>),
-) -> Result<(), ErrorCode>
-    ensures { result ≡ reordered.0 }
-{
-    let (done, _) = reordered;
-    done
+    reorder(host, &mut folder, file, Unknown, &mut host.errors()).0
 }
 
 /// Puts the tables of a file in canonical order if they are in another. A repaired scratch copy is made
@@ -92,7 +81,8 @@ pub fn result_of<D: Disk + Drop>(
 ///
 /// # Errors
 ///
-/// Why the file can't be reordered. It is unchanged, unless reordering itself failed.
+/// Why the file can't be reordered. It is unchanged, unless the reordering itself, which is one commit,
+/// failed.
 pub fn reorder<F: Start, P: Folder, E: Write>(
     host: LocalHost<'_>,
     folder: &mut P,
@@ -218,8 +208,5 @@ fn is_too_old(takes_old: bool, is_old: bool) -> bool
     ensures old { result ≡ true → (takes_old ≡ false) × (is_old ≡ true) }
     ensures taken { result ≡ false → takes_old ≡ false → is_old ≡ false }
 {
-    if takes_old {
-        return false;
-    }
-    is_old
+    !takes_old && is_old
 }

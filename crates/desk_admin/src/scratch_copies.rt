@@ -93,16 +93,6 @@ pub fn check_by_scratch<F: Start, P: Folder, W: Write + Drop, E: Write + Drop>(
     (exit, Some(judged))
 }
 
-/// The exit status in the result of `check_by_scratch`. The scratch copy is closed.
-pub fn status_checked_by_scratch<D: Disk + Drop, E>(
-    judged: (ExitReport<E>, Option<ReadResult<D>>),
-) -> u8
-    ensures { result ≡ judged.0.status }
-{
-    let (exit, _) = judged;
-    exit.status
-}
-
 // Prints the statistics of the file at `path`, or reports why its scratch copy, at `scratch` and made as
 // `way` says, is refused. `found` is the result of reading the scratch copy, which still exists, since the
 // report may read it again.
@@ -150,7 +140,7 @@ fn report_defect<E: Write>(alloc: Global, path: &str, way: ReadMode, errors: &mu
 {
     match way {
         ReadMode::BadChecksums(pages) => report_rows(alloc, path, pages, Rows::OfADesk, errors),
-        ReadMode::OtherOrder => report_order(alloc, path, errors),
+        ReadMode::OtherOrder => report_text(alloc, path, order_text(), errors),
         ReadMode::Itself | ReadMode::Damaged => {}
     }
 }
@@ -260,16 +250,6 @@ pub fn copy_by_scratch<F: Start, N: Start, P: Folder, W: Write + Drop, E: Write 
     (exit, Some(copied))
 }
 
-/// The exit status in the result of `copy_by_scratch`. All files are closed.
-pub fn status_copied_by_scratch<D: Disk + Drop, N: Disk + Drop, E>(
-    copied: (ExitReport<E>, Option<Result<Copies<D, N>, CopyEnd<D, N>>>),
-) -> u8
-    ensures { result ≡ copied.0.status }
-{
-    let (exit, _) = copied;
-    exit.status
-}
-
 // Reports that only the rows of the file at `path` were tested, if it has wrong checksums (`way`) and its
 // copy succeeded (`status` is 0). Else nothing is reported. A failed write and running out of memory are
 // ignored.
@@ -290,14 +270,6 @@ fn report_rows<E: Write>(alloc: Global, path: &str, pages: u64, rows: Rows, erro
     if let Ok(line) = bad_checksums_line(alloc, path, pages, rows.text()) {
         report_line(&line, errors);
     }
-}
-
-// Reports that the file at `path` lists its tables in a non-canonical order. A failed write and running out
-// of memory are ignored.
-fn report_order<E: Write>(alloc: Global, path: &str, errors: &mut E)
-    ensures { IsWrittenIfRoom (spec.order_line path.now) (bytes_written E.Write errors.old errors.new) }
-{
-    report_text(alloc, path, order_text(), errors);
 }
 
 // The line, with its line feed, that reports how many `pages` of the file at `path` have wrong checksums, and

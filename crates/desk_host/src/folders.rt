@@ -208,7 +208,7 @@ fn all_digits(bytes: &[u8]) -> bool
     bytes.iter().all(|byte| byte.is_ascii_digit())
 }
 
-// The path of the file `name` in a folder.
+// The path of the file `name` in `folder`. Fails if memory runs out.
 #[tactic(auto, unfolding(crate::specs::Operators::path_in))]
 fn path_in(alloc: Global, folder: &str, name: &str) -> Result<String, AllocError>
     ensures { IfOk result (λ path. string_bytes path ≡ spec.path_in folder.now name.now) }
@@ -221,7 +221,7 @@ fn path_in(alloc: Global, folder: &str, name: &str) -> Result<String, AllocError
 ///
 /// # Errors
 ///
-/// The journal can't be read, its last record is none of a desk, or memory runs out.
+/// The file can't be read, it isn't a journal, or memory runs out.
 pub fn tail_of(rt: &HostRuntime, journal: &JournalFile) -> Result<(Tail, TailEnd), JournalError>
     ensures { IfErr result IsTailError }
 {
@@ -302,7 +302,8 @@ pub fn make_part(rt: &HostRuntime, folder: &str, number: u64) -> Result<File, Jo
 ///
 /// # Errors
 ///
-/// The file can't be renamed, the folder can't be synced, or memory runs out.
+/// The file can't be renamed, the folder can't be synced, or memory runs out. If only the folder can't be
+/// synced, the file has its final name all the same.
 #[tactic(auto, using(crate::proofs::FaultLemmas::memory_journal_error))]
 pub fn name_part(
     rt: &HostRuntime,

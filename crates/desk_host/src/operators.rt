@@ -5,7 +5,7 @@ ghost use Rattle.std.specs.IoError.{error_kind};
 ghost use Rattle.desk_cli.specs.Lines.{AreEnrolments};
 ghost use Rattle.desk_wire.specs.Streams.{course};
 ghost use Rattle.desk_program.specs.{Keeping.bytes_written, Serving.Grows};
-ghost use Rattle.host_files.specs.{Access.by_ok, Naming.IsWrittenIfRoom, Naming.Reports, Naming.line_of};
+ghost use Rattle.host_files.specs.{Access.by_ok, Naming.Reports};
 ghost use Rattle.desk_host.specs.Operators.{unread_by, unread_text, AreEnrolmentsRead, IsLookResult, Asking, HasUnreadCause, IsStampOf, Read, Stamped, ok_of, IsUnreadIf, IsTextFault, IsTextOf, IsUnstamped, AreReported};
 ghost use Rattle.desk_host.specs.Operators as spec;
 
@@ -198,8 +198,8 @@ impl<F: TextFiles + Drop> EnrolmentFile<'_, F> {
 }
 
 impl<F: TextFiles + Drop> EnrolmentSource for EnrolmentFile<'_, F> {
-    // The enrolments in the file, if it was changed since they were last returned; else none. There are none
-    // either without a file. A file that can't be read is reported, once for each cause, and is read again at
+    // The enrolments in the file, if it was changed since they were last returned; else an empty list, also
+    // if there is no file or it can't be read. Such a file is reported once for each cause, and read again at
     // the next look. Fails if memory ran out.
     #[tactic(auto, using(crate::proofs::OperatorLemmas::nothing_enrolled))]
     fn look(&mut self, alloc: Global) -> Result<Vec<Enrolment>, ErrorCode>
@@ -335,8 +335,8 @@ fn report_lines<E: Write>(
     report_rest(alloc, path, counted.malformed, errors)
 }
 
-// Reports `line`, the last one counted, if it is malformed and one of the first `MAX_REPORTED_LINES` that
-// are. In `counted` it is already counted, so `counted.lines` is its number.
+// Reports `line`, if it is malformed and one of the first `MAX_REPORTED_LINES` that are. It is the last one
+// in `counted`, so `counted.lines` is its number. Fails if memory runs out; a failed write is ignored.
 #[tactic(auto, using(host_files::proofs::lemmas::Reporting::reports_nothing, crate::proofs::ReportedLemmas::reported_one))]
 fn report_if_malformed<E: Write>(
     alloc: Global,
@@ -350,12 +350,14 @@ fn report_if_malformed<E: Write>(
     ensures appended { Reports (bytes_written E.Write errors.old errors.new) }
 {
     if is_malformed(line) && counted.malformed <= MAX_REPORTED_LINES {
-        report_line(alloc, path, counted.lines, errors)?;
+        let text = malformed_text(alloc, counted.lines)?;
+        report_text(alloc, path, &text, errors);
     }
     Ok(())
 }
 
-// Reports how many of the `malformed` malformed lines are beyond the first `MAX_REPORTED_LINES`, if any.
+// Reports by how many the malformed lines, which are so many (`malformed`), exceed `MAX_REPORTED_LINES`, if
+// they do. Fails if memory runs out; a failed write is ignored.
 #[tactic(auto, using(host_files::proofs::lemmas::Reporting::reports_nothing, crate::proofs::ReportedLemmas::reported_one))]
 fn report_rest<E: Write>(
     alloc: Global,
@@ -368,7 +370,8 @@ fn report_rest<E: Write>(
     ensures appended { Reports (bytes_written E.Write errors.old errors.new) }
 {
     if malformed > MAX_REPORTED_LINES {
-        report_more(alloc, path, malformed - MAX_REPORTED_LINES, errors)?;
+        let text = more_malformed_text(alloc, malformed - MAX_REPORTED_LINES)?;
+        report_text(alloc, path, &text, errors);
     }
     Ok(())
 }
@@ -380,49 +383,12 @@ fn is_malformed(line: &str) -> bool
     !line.is_empty() && parse_enrolment_line(line).is_none()
 }
 
-// Reports that the line with this number, counted from 1, is malformed. Fails if memory runs out; a failed
-// write is ignored.
-#[tactic(auto, using(host_files::proofs::lemmas::Reporting::reports_nothing))]
-fn report_line<E: Write>(
-    alloc: Global,
-    path: &str,
-    number: u32,
-    errors: &mut E,
-) -> Result<(), AllocError>
-    ensures reported { IfOk result (λ _. IsWrittenIfRoom (line_of path.now (spec.malformed_line number))
-        (bytes_written E.Write errors.old errors.new)) }
-    ensures unreported { IfErr result (λ _. E.contents errors.new ≡ E.contents errors.old) }
-    ensures appended { Reports (bytes_written E.Write errors.old errors.new) }
-{
-    let text = malformed_text(alloc, number)?;
-    report_text(alloc, path, &text, errors);
-    Ok(())
-}
-
-// The text that reports the malformed line with this number.
+// The text that reports the malformed line with this number, counted from 1.
 #[tactic(auto, unfolding(crate::specs::Operators::malformed_line))]
 fn malformed_text(alloc: Global, number: u32) -> Result<String, AllocError>
     ensures { IfOk result (λ text. string_bytes text ≡ spec.malformed_line number) }
 {
     format!(in alloc; "line {number} is not NAME CEILING, and passed over")
-}
-
-// Reports that `count` more lines are malformed. Fails if memory runs out; a failed write is ignored.
-#[tactic(auto, using(host_files::proofs::lemmas::Reporting::reports_nothing))]
-fn report_more<E: Write>(
-    alloc: Global,
-    path: &str,
-    count: u32,
-    errors: &mut E,
-) -> Result<(), AllocError>
-    ensures reported { IfOk result (λ _. IsWrittenIfRoom (line_of path.now (spec.more_lines count))
-        (bytes_written E.Write errors.old errors.new)) }
-    ensures unreported { IfErr result (λ _. E.contents errors.new ≡ E.contents errors.old) }
-    ensures appended { Reports (bytes_written E.Write errors.old errors.new) }
-{
-    let text = more_malformed_text(alloc, count)?;
-    report_text(alloc, path, &text, errors);
-    Ok(())
 }
 
 // The text that reports `count` more malformed lines.

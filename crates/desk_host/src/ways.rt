@@ -46,8 +46,8 @@ impl ReadMode {
 }
 
 /// How the file at a path is read, by whether its WAL is damaged (`is_damaged`). If a sound WAL may have a
-/// commit, the file itself is read: the WAL may have newer versions of its pages. So it is if SQLite reads
-/// the name otherwise than as a path.
+/// commit, the file itself is read: the WAL may have newer versions of its pages. The file itself is also
+/// read if SQLite wouldn't take the path for one (`:memory:` or `file:..`).
 pub fn read_mode(rt: &HostRuntime, path: &str, is_damaged: bool) -> ReadMode
     ensures { MayBeRead is_damaged (access.is_no_path path.now) result }
 {
@@ -72,9 +72,9 @@ fn mode_at<F: HostFiles>(alloc: Global, files: &F, path: &str, is_damaged: bool)
     )
 }
 
-// How a file is read, by whether its WAL is damaged, how many pages have wrong checksums (if known), and
-// whether it lists its tables in an order that the desk doesn't read. The first of these that is so
-// decides.
+// How a file is read, by whether its WAL is damaged, how many pages have wrong checksums (`None` if that
+// isn't known), and whether it lists its tables in an order that the desk doesn't read. The first of these
+// faults that it has decides.
 fn mode_for(is_damaged: bool, bad_checksums: Option<u64>, is_out_of_order: bool) -> ReadMode
     ensures way { result ≡ spec.mode_for is_damaged bad_checksums is_out_of_order }
     ensures may { MayBeRead is_damaged false result }

@@ -175,15 +175,15 @@ module _ {S : Type 0} (g : Ghosts S) (play : PlayArgs) (o : InputOutside) where
 -- a journal is replayed at the desk that was opened (desk), which becomes `left`. If the disk has returned
 -- what was written until now, it had before; and if each later read was tested before, it still is
 abbrev pub IsReplayedAt :
-    {S : Type 0} → Ghosts S → Option ℕ → Passage → Ending → Option (Parts (Shown S)) → Parts (Shown S)
-    → Type 0
-IsReplayedAt g until p end left desk = IsSomeAnd left (λ left.
-    IsReplayed (IsSound g left) until p end (load_world desk) (load_world left)
+    {S : Type 0} → Type 0 → Ghosts S → Option ℕ → Passage → Ending → Option (Parts (Shown S))
+    → Parts (Shown S) → Type 0
+IsReplayedAt R g until p end left desk = IsSomeAnd left (λ left.
+    IsReplayed R (IsSound g left) until p end (load_world desk) (load_world left)
     × (doubt (state g desk.store.held).is_clean ≤ doubt (state g left.store.held).is_clean)
     × ((state g desk.store.held).IsShielded → (state g left.store.held).IsShielded))
 
 -- `replay`: its journal is replayed at the desk opened for it; or none was, and only that error is reported
-pub record IsReplayRun {S : Type 0} (g : Ghosts S) (opened : Result (Parts (Shown S)) ErrorCode)
+pub record IsReplayRun {S : Type 0} (R : Type 0) (g : Ghosts S) (opened : Result (Parts (Shown S)) ErrorCode)
     (until : Option ℕ) (p : Passage) (end : Ending) (left : Option (Parts (Shown S))) : Type 0 where
-  pub done : IfOk opened (IsReplayedAt g until p end left)
+  pub done : IfOk opened (IsReplayedAt R g until p end left)
   pub undone : IfErr opened (IsUnplayed p end left)

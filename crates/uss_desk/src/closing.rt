@@ -1,9 +1,8 @@
 //! Closes a desk over files after its command. Its WAL is checkpointed: the database file alone has the state
 //! then.
 
-ghost use Rattle.std.specs.Prelude.{◌≡◌};
 ghost use Rattle.desk_cli.specs.Exits.{ending};
-ghost use Rattle.uss_desk.specs.FilesLeft.{IsClosed, IsEnded, IsUnclosed};
+ghost use Rattle.uss_desk.specs.FilesLeft.{IsClosed, IsEnded};
 
 use crate::opening::DeskAt;
 use crate::watching::CloseReport;
@@ -33,7 +32,8 @@ pub fn close_after<D: Disk + Drop, N: OpenPaths + Drop, E: Write>(
     (exit, Some(closed))
 }
 
-// The exit report of a command that ended with `status`, by the result of closing its desk. An error code
+// The exit report of a command that ended with `status`, by the result of closing its desk. If the desk can't
+// be closed, or its files were no longer at their paths, a command that had succeeded fails with `Store`, which
 // goes to `errors`; a failed write there is ignored.
 fn exit_closed<D: Disk, E: Write>(
     status: u8,
@@ -43,29 +43,9 @@ fn exit_closed<D: Disk, E: Write>(
     ensures { IsEnded closed.now.files closed.now.are_at_paths status
         (ending result (E.contents errors.old) (E.contents errors.new)) }
 {
-    match &closed.files {
-        Ok(_) if closed.are_at_paths => ExitReport::silent(status),
-        Ok(_) => exit_unclosed(status, errors),
-        Err(_) => exit_unclosed(status, errors),
+    let is_closed = closed.are_at_paths && closed.files.is_ok();
+    if is_closed || status != 0 {
+        return ExitReport::silent(status);
     }
-}
-
-// The exit report of a command whose desk can't be closed, or whose files were no longer at their paths. If
-// it had succeeded (`status` is 0), the error is `Store`, which goes to `errors`; a failed write there is
-// ignored. Else its status stays.
-fn exit_unclosed<E: Write>(status: u8, errors: &mut E) -> ExitReport<E>
-    ensures { IsUnclosed status (ending result (E.contents errors.old) (E.contents errors.new)) }
-{
-    if status == 0 {
-        return report_exit(errors, Err(ErrorCode::Store));
-    }
-    ExitReport::silent(status)
-}
-
-/// The exit status in the result of `close_after`. The files are dropped.
-pub fn status_closed<D: Disk + Drop, E>(ended: (ExitReport<E>, Option<CloseReport<D>>)) -> u8
-    ensures { result ≡ ended.0.status }
-{
-    let (exit, _) = ended;
-    exit.status
+    report_exit(errors, Err(ErrorCode::Store))
 }

@@ -1,11 +1,11 @@
 //! The command `migrate`: the plans of a database of schema 1 are migrated to schema 2.
 
-ghost use Rattle.std.specs.Prelude.{◌≡◌, ◌⊎◌, IfErr, false};
+ghost use Rattle.std.specs.Prelude.{◌⊎◌, IfErr, false};
 ghost use Rattle.desk_program.specs.Keeping.{bytes_written, ended};
 ghost use Rattle.desk_admin.specs.FilesReported.{IsOpenFailure, or_failure};
 ghost use Rattle.uss_desk.specs.{OpenedFor.IsMigrationReported, Finishing.IsLogRefused};
 
-use crate::closing::{close_after, status_closed};
+use crate::closing::close_after;
 use crate::opening::{FileDesk, MigratedDesk, open_old};
 use crate::refusals::report_refusal;
 use desk_admin::reordering::reorder_for;
@@ -37,7 +37,7 @@ pub fn migrate_here(host: LocalHost<'_>, database: &Database) -> Result<u8, Erro
     let moved = open_old(host, database, Unknown, paths);
     report_refusal(host, database, false, &moved, &mut errors);
     let (exit, desk) = report_moved(host.alloc(), moved, &mut host.output(), &mut errors);
-    Ok(status_closed(close_after(exit.status, desk, &mut errors)))
+    Ok(close_after(exit.status, desk, &mut errors).0.status)
 }
 
 /// Prints how many plans were migrated to `output`, or the error code to `errors`, and returns the exit

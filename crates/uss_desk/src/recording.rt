@@ -165,9 +165,9 @@ fn extent_of(last: &Option<JournalFile>) -> (u64, u64)
     }
 }
 
-// The pending recovery of a desk in memory: none, since such a desk continues no journal. Only if `action` is
-// `play`, and the folder has no journals (`has_records`), a journal can be written; else the cause is
-// reported.
+// The pending recovery of a desk in memory: none, since such a desk continues no journal. For `play` the error
+// is `Write` if the folder has journals (`has_records`). For any other command it is `Store`, since a desk in
+// memory has no journal there. The cause is reported.
 fn recovery_in_memory<'s>(
     host: LocalHost<'_>,
     folder: &str,
@@ -178,11 +178,8 @@ fn recovery_in_memory<'s>(
 {
     match action {
         DeskCommand::Play(_) if has_records => {
-            or_report(
-                host,
-                folder,
-                Err(JournalError::Cause("records of another desk")),
-            )
+            let cause = JournalError::Cause("records of another desk");
+            or_report(host, folder, Err(cause))
         }
         DeskCommand::Play(_) => Ok(None),
         _ => Err(report_store_failure(host, folder, "a record needs a database in a file")),
@@ -222,10 +219,7 @@ fn recovery_if_any(left: PendingRecovery<'_>) -> Option<PendingRecovery<'_>>
     ensures none { HasNothingPending left.entry.tail left.entry.ended → result ≡ None }
     ensures some { (result ≡ Some left.entry) ⊎ HasNothingPending left.entry.tail left.entry.ended }
 {
-    if is_complete(&left.tail, left.ended) {
-        return None;
-    }
-    Some(left)
+    (!is_complete(&left.tail, left.ended)).then_some(left)
 }
 
 // What the last journal says, and what follows its last whole entry; or why the journal can't be continued.
@@ -413,8 +407,8 @@ impl<'s> JournalFolder<'s> {
     ///
     /// # Errors
     ///
-    /// `Write` if the folder can't be written, or its last journal has changed; `Memory`; `Clock` if the
-    /// clock can't be read.
+    /// `Write` if the folder can't be written, or its last journal has changed, which is reported; `Memory`;
+    /// `Clock` if the clock can't be read.
     pub fn begin_if(
         self,
         is_open: bool,
@@ -432,14 +426,8 @@ impl<'s> JournalFolder<'s> {
         Ok(Some(self.begin(terms, enrolments, roll)?))
     }
 
-    /// Begins the journal of a command at its open desk: with the settings `terms`, the operators in `roll`,
-    /// and those that the command enrols (`enrolments`). It gets its final name once these entries are on the
-    /// disk.
-    ///
-    /// # Errors
-    ///
-    /// `Write` if the folder can't be written, or its last journal has changed: the cause is reported;
-    /// `Memory`; `Clock` if the clock can't be read.
+    // Begins the journal of a command at its open desk, as `begin_if` does. The journal gets its final name
+    // once these entries are on the disk.
     fn begin(
         mut self,
         terms: &Terms,
@@ -539,13 +527,9 @@ fn begin_part<'s>(
 fn second_now(host: LocalHost<'_>) -> Result<u64, ErrorCode>
     ensures { IfErr result (λ f. f ≡ ErrorCode.Clock) }
 {
-    let Ok(now) = SystemTime::now(host.rt) else {
-        return Err(ErrorCode::Clock);
-    };
-    match now.duration_since(SystemTime::UNIX_EPOCH) {
-        Ok(since) => Ok(since.as_secs()),
-        Err(_) => Err(ErrorCode::Clock),
-    }
+    let now = SystemTime::now(host.rt).map_err(|_| ErrorCode::Clock)?;
+    let since = now.duration_since(SystemTime::UNIX_EPOCH);
+    Ok(since.map_err(|_| ErrorCode::Clock)?.as_secs())
 }
 
 // The error that a repeated request, or its answer, can't be recorded. If a file is the cause, that was

@@ -6,7 +6,7 @@ ghost use Rattle.desk_cli.specs.Exits.{ending};
 ghost use Rattle.desk_wire.specs.Streams.{passage};
 ghost use Rattle.uss_desk.specs.{FilesLeft.IsPastOf, FilesLeft.Past, OpenedFor.AreReadsTested, OpenedFor.StaysGuarded, Finishing.IsReplayRun, Finishing.IsLogRefused};
 
-use crate::closing::{close_after, status_closed};
+use crate::closing::close_after;
 use crate::opening::{DeskAt, Opened, open_database};
 use crate::refusals::report_refusal;
 use crate::rolls::NotedOperators;
@@ -55,7 +55,7 @@ pub fn replay_here(host: LocalHost<'_>, words: &ReplayArgs) -> Result<u8, ErrorC
                 &mut output,
                 &mut errors,
             );
-            Ok(status_closed(close_after(exit.status, desk, &mut errors)))
+            Ok(close_after(exit.status, desk, &mut errors).0.status)
         }
     }
 }
@@ -73,7 +73,7 @@ pub fn replay_line<D: Disk + Drop, N: OpenPaths + Drop, R: Read, W: Write, E: Wr
     output: &mut W,
     errors: &mut E,
 ) -> (ExitReport<E>, Option<DeskAt<D, N>>)
-    ensures run { IsReplayRun over_files opened until
+    ensures run { IsReplayRun R over_files opened until
         (passage R.Read W.Write input.old input.new output.old output.new)
         (ending result.0 (E.contents errors.old) (E.contents errors.new)) result.1 }
     ensures guarded { (past : Past D) → IsPastOf D.Disk past → AreReadsTested opened

@@ -10,7 +10,7 @@ ghost use Rattle.desk_program.specs.Keeping.{bytes_written};
 ghost use Rattle.uss_desk.specs.{Finishing.Finishes, OpenedFor.AreReadsTested, OpenedFor.HasNotedDesk, FilesLeft.IsPrepared, FilesLeft.IsUnenrolled};
 ghost use Rattle.uss_desk.specs.FilesLeft as spec;
 
-use crate::closing::{close_after, status_closed};
+use crate::closing::close_after;
 use crate::fail;
 use crate::opening::{DeskAt, Opened, open_database};
 use crate::playing::play_line;
@@ -32,7 +32,7 @@ use sqlite::Unknown;
 use sqlite_disk::Disk;
 use std::io::{BufReader, Stderr, Stdin, Stdout, Write};
 
-/// What a command has at hand, apart from its desk and the desk's paths.
+// What a command has at hand, apart from its desk and the desk's paths.
 #[derive(Drop)]
 struct Session<'s> {
     host: LocalHost<'s>,
@@ -92,10 +92,7 @@ impl<'s> Session<'s> {
     fn needs_recovery(&self) -> bool
         ensures { result ≡ is_some (spec.undone_of self.now.folder) }
     {
-        match &self.folder {
-            Some(folder) => folder.needs_recovery(),
-            None => false,
-        }
+        matches!(&self.folder, Some(folder) if folder.needs_recovery())
     }
 
     // Recovers what the last journal left pending at the desk that was opened over files, and returns that
@@ -230,7 +227,7 @@ pub fn at_desk(
                 session.report_if_unenrolled(&mut host.errors());
             }
             let (status, desk) = session.run(action, desk);
-            Ok(status_closed(close_after(status, desk, &mut host.errors())))
+            Ok(close_after(status, desk, &mut host.errors()).0.status)
         }
     }
 }

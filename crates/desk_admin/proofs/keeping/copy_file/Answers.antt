@@ -14,6 +14,6 @@ returns-in-Ok-clause-copied g c =
         reported = λ path at. subst
             (λ before. ReportsOthers (has_others (file_state c.in-Ok.copies.0).now.schema) path
             (course before after)) c.in-Ok.ensures.quiet (c.report_others.ensures.reported path at);
-        printed = c.print_holdings-exit.ensures;
+        printed = c.print_copied-exit.ensures;
       },
     )
