@@ -36,8 +36,9 @@ pub(crate) struct GridSquare {
 }
 
 impl Frame {
-    /// The part of the face around `rect`: with a margin of a quarter of its longer side, or of one square of
-    /// the grid if that is more, widened to whole squares of the grid, and cut at the edge of the face.
+    /// The part of the face that is shown for `rect`. It is the rectangle with a margin of a quarter of its
+    /// longer side (the distance of its outermost leaves), or of one square of the grid if that is more,
+    /// widened to whole squares of the grid, and cut at the edge of the face.
     pub(crate) fn around(rect: &Rect) -> Frame
         ensures frame { IsFrame rect.now result }
         ensures step { 0 < result.step }
@@ -58,7 +59,8 @@ impl Frame {
         }
     }
 
-    /// The square of `cell` in the picture, in leaves: `y` counts down from the upper edge, as in SVG.
+    /// The square of `cell` in the picture, in leaves. Its `y` counts down from the upper edge, as in SVG,
+    /// while `j` goes up.
     pub(crate) fn place_of(&self, cell: &CellId) -> GridSquare
         ensures { result ≡ spec.place_of self.now cell.now }
     {
@@ -73,14 +75,14 @@ impl Frame {
         }
     }
 
-    /// The width of a line that is about one pixel wide, in leaves; at least 1.
+    /// The width of a line that is about one pixel wide, in leaves (the unit of the picture); at least 1.
     pub(crate) fn line_width(&self) -> u64
         ensures { result ≡ spec.line_width_of self.now }
     {
         (self.width / WIDTH).max(1)
     }
 
-    /// The height of the face's part in the picture, in pixels. 0 if the frame has no width.
+    /// The height in pixels of the part of the face that is shown; 0 if the frame has no width.
     pub(crate) fn pixel_height(&self) -> u64
         ensures { result ≡ spec.pixel_height_of self.now }
     {
@@ -88,7 +90,7 @@ impl Frame {
         high.checked_div(self.width).unwrap_or(0)
     }
 
-    /// How many leaves below the upper edge the coordinate `j` is.
+    /// How many leaves the coordinate `j` lies below the upper edge; 0 if it is above that.
     pub(crate) fn depth_of(&self, j: u64) -> u64
         ensures { result ≡ spec.depth_below_top self.now j }
     {
@@ -105,7 +107,7 @@ fn side_of(level: u8) -> u64
 }
 
 // The side of the grid's squares, in leaves: the power of two at which about `SQUARES` squares lie along
-// `length` leaves, but at least `side`.
+// `length` leaves, but at least `side`, the side of a square of the rectangle's level.
 fn grid_step(length: u64, side: u64) -> u64
     requires { 0 < side }
     ensures step { IsStep length side result }
@@ -123,8 +125,9 @@ fn round_down(number: u64, step: u64) -> u64
     number.saturating_sub(number % step)
 }
 
-// The coordinates that are shown, as the least one and their number: `least` to `greatest` with `margin` on
-// both sides, widened to whole squares of the grid (`step`) and cut at the edge of the face.
+// The coordinates that are shown along one axis: the least one, and how many they are. They are `least` to
+// `greatest` with `margin` leaves on both sides, widened to whole squares of the grid (`step` leaves) and cut
+// at the edge of the face.
 fn visible_range(least: u32, greatest: u32, margin: u64, step: u64) -> (u64, u64)
     requires { 0 < step }
     ensures from { result.0 ≡ shown_from least margin step }
@@ -139,7 +142,7 @@ fn visible_range(least: u32, greatest: u32, margin: u64, step: u64) -> (u64, u64
 }
 
 impl GridSquare {
-    /// The centre of the square, as its `x` and its `y`, in leaves.
+    /// The centre of the square, as its `x` and its `y`, in whole leaves, rounded down.
     pub(crate) fn middle(self) -> (u64, u64)
         ensures x { result.0 ≡ spec.middle_x self }
         ensures y { result.1 ≡ spec.middle_y self }

@@ -1,5 +1,6 @@
 //! Pictures of covers (SVG): a grid of the face around a rectangle, the cells of its cover, the curve through
-//! them, and a legend below.
+//! them, and a legend below. The part with the face is a nested SVG whose unit is a leaf. Each function fails
+//! only if memory runs out.
 
 ghost use Rattle.std.specs.Prelude.{◌≡◌, ◌∷◌, ◌<◌, ◌/◌, IfOk, string_bytes};
 ghost use Rattle.cell_picture.specs.Picture.{place_of, IsPicture};
@@ -52,8 +53,8 @@ pub fn picture_of(alloc: Global, rect: &Rect, cells: &[CellId]) -> Result<String
     Ok(text)
 }
 
-// The text before the grid: the start of the SVG, its title and style, and the start and background of the
-// face. The SVG is as high as the face and the legend.
+// The text before the grid: the start of the SVG, its title and style, and the start of the nested SVG with
+// the background of the face. The SVG is as high as the face and the legend.
 fn picture_start(alloc: Global, frame: &Frame, rect: &Rect) -> Result<String, AllocError>
     ensures { IfOk result (λ text. string_bytes text ≡ spec.head_text frame.now rect.now) }
 {
@@ -110,8 +111,8 @@ fn title(alloc: Global, rect: &Rect) -> Result<String, AllocError>
     )
 }
 
-// The text after the curve: the end of the face, and the legend. The legend is outside of the face since
-// browsers don't draw text at the scale of leaves.
+// The text after the curve: the end of the face, and the legend. The legend is outside of the nested SVG,
+// since browsers don't draw text at the scale of leaves.
 fn picture_end(alloc: Global, frame: &Frame) -> Result<String, AllocError>
     ensures { IfOk result (λ text. string_bytes text ≡ spec.tail_text frame.now) }
 {
@@ -142,7 +143,8 @@ fn grid_lines(alloc: Global, frame: &Frame) -> Result<String, AllocError>
     Ok(text)
 }
 
-// The vertical lines of a grid that is `width` leaves wide, one each `step` leaves, from left to right.
+// The vertical lines of a grid that is `width` leaves wide and `height` high, one each `step` leaves, from
+// the left edge on; the right edge has none.
 fn vertical_lines(alloc: Global, width: u64, height: u64, step: u64) -> Result<String, AllocError>
     requires { 0 < step }
     ensures { IfOk result (λ text. string_bytes text ≡ spec.vertical_lines_text step height (width / step)) }
@@ -155,7 +157,7 @@ fn vertical_lines(alloc: Global, width: u64, height: u64, step: u64) -> Result<S
     Ok(text)
 }
 
-// The path of a vertical line at `x`, from the upper edge down to `height`.
+// The path of a vertical line at `x`, from the upper edge down to `height`, in leaves.
 #[tactic(auto, unfolding(crate::specs::Picture::vertical_line_text))]
 fn vertical_line(alloc: Global, x: u64, height: u64) -> Result<String, AllocError>
     ensures { IfOk result (λ text. string_bytes text ≡ spec.vertical_line_text x height) }
@@ -163,7 +165,8 @@ fn vertical_line(alloc: Global, x: u64, height: u64) -> Result<String, AllocErro
     format!(in alloc; "M{x} 0V{height}")
 }
 
-// The horizontal lines of a grid that is `height` leaves high, one each `step` leaves, from the bottom up.
+// The horizontal lines of a grid that is `width` leaves wide and `height` high, one each `step` leaves, from
+// the lower edge up; the upper edge has none.
 fn horizontal_lines(alloc: Global, width: u64, height: u64, step: u64) -> Result<String, AllocError>
     requires { 0 < step }
     ensures { IfOk result (λ text. string_bytes text ≡ spec.horizontal_lines_text step width height (height / step)) }
@@ -176,7 +179,7 @@ fn horizontal_lines(alloc: Global, width: u64, height: u64, step: u64) -> Result
     Ok(text)
 }
 
-// The path of a horizontal line at `y`, from the left edge to `width`.
+// The path of a horizontal line at `y`, from the left edge to `width`, in leaves.
 #[tactic(auto, unfolding(crate::specs::Picture::level))]
 fn horizontal_line(alloc: Global, y: u64, width: u64) -> Result<String, AllocError>
     ensures { IfOk result (λ text. string_bytes text ≡ spec.level y width) }
@@ -184,7 +187,7 @@ fn horizontal_line(alloc: Global, y: u64, width: u64) -> Result<String, AllocErr
     format!(in alloc; "M0 {y}H{width}")
 }
 
-// The squares of the cells, in their order.
+// The squares of the cells as SVG, in the order of `cells`.
 fn cell_squares(alloc: Global, frame: &Frame, cells: &[CellId]) -> Result<String, AllocError>
     ensures { IfOk result (λ text. string_bytes text ≡ spec.cells_text frame.now cells.now) }
 {
@@ -195,7 +198,7 @@ fn cell_squares(alloc: Global, frame: &Frame, cells: &[CellId]) -> Result<String
     Ok(text)
 }
 
-// The square of a cell, with the cell's token as its title.
+// The square of a cell as SVG, with the cell's token as its title.
 #[tactic(auto, unfolding(crate::specs::Picture::cell_text))]
 fn cell_square(alloc: Global, frame: &Frame, cell: &CellId) -> Result<String, AllocError>
     ensures { IfOk result (λ text. string_bytes text
@@ -208,7 +211,8 @@ fn cell_square(alloc: Global, frame: &Frame, cell: &CellId) -> Result<String, Al
     )
 }
 
-// The outline of the rectangle as it was requested, not widened to whole squares of its level.
+// The outline of the rectangle as it was requested, not widened to whole squares of its level. The greatest
+// coordinates are included, so its sides are one leaf more than the differences.
 #[tactic(auto, unfolding(crate::specs::Picture::requested_rectangle_text))]
 fn requested_rectangle(alloc: Global, frame: &Frame, rect: &Rect) -> Result<String, AllocError>
     ensures { IfOk result (λ text. string_bytes text ≡ spec.requested_rectangle_text frame.now rect.now) }
@@ -240,8 +244,8 @@ fn curve_lines(alloc: Global, frame: &Frame, cells: &[CellId]) -> Result<String,
     Ok(text)
 }
 
-// The lines between successive cells that are adjacent on the curve, or, if not `adjacent`, between the
-// others.
+// The lines between successive cells: between those that are adjacent on the curve if `adjacent` is true, and
+// between the others if it is false.
 fn lines_along(
     alloc: Global,
     frame: &Frame,
@@ -256,7 +260,7 @@ fn lines_along(
     }
 }
 
-// The lines of `lines_along` from the cell `first` along `others`, in their order.
+// The lines of `lines_along` from the cell `first` along `others`, in their order. `adjacent` is as there.
 fn lines_from(
     alloc: Global,
     frame: &Frame,
@@ -276,7 +280,8 @@ fn lines_from(
     Ok(text)
 }
 
-// The line between two cells if their being adjacent on the curve equals `adjacent`; else the empty text.
+// The line between two successive cells if it is to be drawn, else the empty text. If `adjacent` is true it
+// is drawn between cells that are adjacent on the curve, and if false between others.
 fn line_if_drawn(
     alloc: Global,
     frame: &Frame,

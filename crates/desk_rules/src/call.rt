@@ -1,4 +1,4 @@
-//! Calls to the desk.
+//! Calls to the desk: requests, after they are read.
 
 ghost use Rattle.std.specs.Prelude.{◌≡◌, IfOk};
 
@@ -35,7 +35,7 @@ pub struct Asked {
 }
 
 impl Call {
-    /// A copy of the call, with its plan or volume if it has one.
+    /// An equal call, in memory of its own.
     ///
     /// # Errors
     ///
@@ -55,7 +55,7 @@ impl Call {
 }
 
 impl Asked {
-    /// A copy of the call and of its operator.
+    /// An equal call of the same operator, in memory of its own.
     ///
     /// # Errors
     ///

@@ -13,7 +13,8 @@ use volume4d::{Held, Meeting, Slab, first_meeting, meet};
 /// greatest priority has to be the greatest that other plans hold there (`levels` in the contract), or none
 /// if that is too low to block the area.
 ///
-/// If `mine` are only some of the area's slabs, the result is the first blocked point among these.
+/// If `mine` are only some of the area's slabs (the clause `among`), the result is the first blocked point
+/// among these.
 pub fn first_conflict(mine: &[Slab], theirs: &[Held]) -> Option<Meeting>
     ensures area { (permitted : List ℕ) (area : List Block) (levels : Point → Option ℕ) (priority : ℕ) →
         AreSlabsOf mine.now area →
@@ -26,7 +27,7 @@ pub fn first_conflict(mine: &[Slab], theirs: &[Held]) -> Option<Meeting>
     first_meeting(mine, theirs)
 }
 
-/// Whether two areas share a point. `mine` are the slabs of one area, `theirs` those of the other.
+/// Whether two areas share a point. `mine` are all slabs of one area, `theirs` all those of the other.
 pub fn share_a_point(mine: &[Slab], theirs: &[Slab]) -> bool
     ensures { (area other : List Block) → AreSlabsOf mine.now area → AreSlabsOf theirs.now other →
         result ≡ spec.share_a_point area other }

@@ -1,4 +1,4 @@
-//! The verdict on a request, by the order of refusals.
+//! The verdict on a request to plan, change or close a flight, by the order of refusals.
 
 ghost use Rattle.std.specs.Prelude.{◌≡◌, ◌∷◌, [], ◌&&◌, None, pos, ◌+ℤ◌, ◌-ℤ◌, int_lt, nat_le, nat_lt, is_none};
 ghost use Rattle.std.specs.Option.{option_copied};
@@ -61,13 +61,13 @@ pub const MAX_PRIORITY: u32 = 1_000;
 /// The most plans that an operator may have, closed ones included.
 pub const MAX_PLANS: u32 = 200;
 
-/// The verdict on the request `call`: the first refusal that applies, in the order of `Note`, or
-/// `Completed` if none does. An operator's plans may have any number of spans and cells.
+/// The verdict on the request `call`: the first refusal that applies, in the order of `Note`, or `Completed`
+/// if none does. An operator's plans may have any number of spans and cells.
 ///
-/// `moment` is the Unix second of the request. `stored` is the operator's plan with this id, and
-/// `own_rows` the number of the operator's plans, closed ones included. `ceiling` is the greatest
-/// priority that the operator may use. `meeting` is the conflict of the requested area: its first
-/// blocked point.
+/// `moment` is the Unix second of the request. `stored` is the operator's plan with this id, or `None`.
+/// `own_rows` is the number of the operator's plans, closed ones included. `ceiling` is the greatest priority
+/// that the operator may use. `meeting` is the first blocked point of the requested area, or `None` if no
+/// point is blocked.
 #[tactic(auto, unfolding(crate::specs::Outcome::outcome))]
 pub fn decide(
     call: &PutCall,
@@ -90,7 +90,7 @@ pub fn decide(
 
 /// The verdict on a request, like that of `decide`, where spans and cells may be limited: `standing` says
 /// which limits the operator would exceed. `stored` are the states of the operator's plan with the request's
-/// id, or `None`.
+/// id, or `None` if there is no such plan. `moment` and `meeting` are as for `decide`.
 #[tactic(auto, unfolding(crate::specs::Outcome::outcome_under))]
 pub fn decide_under(
     call: &PutCall,
@@ -113,7 +113,8 @@ pub fn decide_under(
     }
 }
 
-// The verdict on a request with the style `style` that no rule refuses. `step` is the state table's step.
+// The verdict on a request that no rule refuses. `style` is the request's, and `step` what the state table
+// says of it.
 fn completed(style: Style, step: Step) -> Verdict
     ensures { result ≡ record {
       result = results.Completed;
@@ -132,8 +133,10 @@ fn completed(style: Style, step: Step) -> Verdict
     }
 }
 
-// The first reason to refuse a request, in the order of `Note`, or `None`. `blocked` says whether the
-// requested area has a conflict; the other parameters are those of `decide_under`.
+// The first reason to refuse a request, in the order of `Note`, or `None` if there is none. `blocked` says
+// whether the requested area has a conflict; the other parameters are those of `decide_under`. A report of
+// what happens in the air (`Step::Report`) is not checked for times and conflicts. A request that closes a
+// plan is only checked for its style and states.
 #[tactic(auto, unfolding(crate::specs::Outcome::note_from))]
 fn note_for(
     call: &PutCall,
@@ -166,8 +169,9 @@ fn note_for(
     }
 }
 
-// The first of the operator's limits that it exceeds if a plan of priority `priority` is stored, or `None`.
-// `stored` are the states of the plan that it replaces, or `None` if the plan is new.
+// The first of the operator's limits that it would exceed with a plan of priority `priority`, in the order of
+// `Note`; `None` if it exceeds none. `stored` are the states of the plan that this one replaces, or `None` if
+// the plan is new.
 fn over_limit(priority: u32, stored: Option<States>, standing: &Standing) -> Option<Note>
     ensures { result ≡ first_note (note_where (nat_lt standing.now.ceiling priority) notes.Priority
         ∷ note_where (is_none stored && nat_le max_plans standing.now.own_rows) notes.PlansLimit
@@ -189,15 +193,15 @@ fn over_limit(priority: u32, stored: Option<States>, standing: &Standing) -> Opt
     None
 }
 
-// Whether the plan is new (`stored` is `None`) and the operator already has `MAX_PLANS` plans.
+// Whether the plan is new (`stored` is `None`) and the operator already has 200 plans or more.
 fn is_full(stored: Option<States>, own_rows: u32) -> bool
     ensures { result ≡ (is_none stored && nat_le max_plans own_rows) }
 {
     stored.is_none() && own_rows >= MAX_PLANS
 }
 
-// Whether the desk supports the style for the requested states. `InReality` reports what has happened: that
-// an aircraft is off its plan, or that a flight is over.
+// Whether the desk supports the style for the requested states. `InReality` is only supported for reports of
+// what has happened: that an aircraft in use is off its plan, or that a flight is over.
 fn is_offered(style: Style, usage: Usage, aircraft: Aircraft) -> bool
     ensures { result ≡ is_offered style usage aircraft }
 {
@@ -208,7 +212,7 @@ fn is_offered(style: Style, usage: Usage, aircraft: Aircraft) -> bool
     }
 }
 
-// Whether some volume ends at or before `moment`.
+// Whether some volume ends at or before the Unix second `moment`.
 #[tactic(auto, unfolding(crate::specs::Outcome::has_ended))]
 fn any_ended(volumes: &[Volume], moment: i64) -> bool
     ensures { result ≡ has_ended volumes.now moment }
@@ -216,7 +220,7 @@ fn any_ended(volumes: &[Volume], moment: i64) -> bool
     volumes.iter().any(|volume| volume.window().end() <= moment)
 }
 
-// Whether some volume starts more than `HORIZON` seconds after `moment`.
+// Whether some volume starts more than `HORIZON` seconds after the Unix second `moment`.
 #[tactic(auto, unfolding(crate::specs::Outcome::is_beyond_horizon))]
 fn any_beyond_horizon(volumes: &[Volume], moment: i64) -> bool
     ensures { result ≡ is_beyond_horizon volumes.now moment }
@@ -226,22 +230,23 @@ fn any_beyond_horizon(volumes: &[Volume], moment: i64) -> bool
         .any(|volume| starts_beyond_horizon(volume, moment))
 }
 
-// Whether a volume starts more than `HORIZON` seconds after `moment`.
+// Whether a volume starts more than `HORIZON` seconds after the Unix second `moment`.
 fn starts_beyond_horizon(volume: &Volume, moment: i64) -> bool
     ensures { result ≡ int_lt (moment +ℤ pos max_ahead) volume.now.window.start }
 {
     moment < earliest_request(volume)
 }
 
-// The earliest Unix second at which a volume may be requested. This subtraction can't overflow, as the sum
-// `moment + HORIZON` could.
+// The Unix second from which on a volume may be requested: `HORIZON` before its start. A volume's start is
+// limited, so that this difference can't overflow, while `moment + HORIZON` could.
 fn earliest_request(volume: &Volume) -> i64
     ensures { result ≡ volume.now.window.start -ℤ pos max_ahead }
 {
     volume.window().start() - HORIZON
 }
 
-// The result of a request that is refused for the reason `note`.
+// The result of a request that is refused for the reason `note`: `NotSupported` for the style, else
+// `Rejected`.
 fn result_for(note: Note) -> PlanResult
     ensures { result ≡ refused_result note }
 {
@@ -251,14 +256,16 @@ fn result_for(note: Note) -> PlanResult
     }
 }
 
-/// The status of a stored plan, or of no plan: `flight_plan_status` of flight_planning v1.
+/// The status of the plan `stored`, or `NotPlanned` if there is none: `flight_plan_status` of flight_planning
+/// v1.
 pub fn status_of(stored: Option<&PlanRow>) -> PlanStatus
     ensures { result ≡ spec.status_of (option_copied stored.entry) }
 {
     status_from(states_of(stored))
 }
 
-/// The status of a plan in the states `stored`, or of no plan: `flight_plan_status` of flight_planning v1.
+/// The status of a plan in the states `stored`, or `NotPlanned` if there is none: `flight_plan_status` of
+/// flight_planning v1.
 pub fn status_from(stored: Option<States>) -> PlanStatus
     ensures { result ≡ spec.status_from stored }
 {
@@ -273,7 +280,8 @@ pub fn status_from(stored: Option<States>) -> PlanStatus
     }
 }
 
-// The status of the plan after `step`, which no rule refuses. So it isn't `Refuse`, whose value is arbitrary.
+// The status of the plan after `step`, which no rule refuses. So `step` isn't `Refuse`, and the value for
+// that is arbitrary.
 fn status_after(step: Step) -> PlanStatus
     ensures { result ≡ step_status step }
 {
@@ -284,7 +292,8 @@ fn status_after(step: Step) -> PlanStatus
     }
 }
 
-// The change to the stored plan by `step`, which no rule refuses; a hypothetical request changes nothing.
+// The change to the stored plan by `step`, which no rule refuses. A request of the style `Hypothetical`
+// changes nothing.
 fn effect_of(style: Style, step: Step) -> Effect
     ensures { result ≡ styled_effect style (step_effect step) }
 {
@@ -298,7 +307,8 @@ fn effect_of(style: Style, step: Step) -> Effect
     }
 }
 
-// The blocked point that is reported beside `note`: `meeting` if that is `Conflict`, else `None`.
+// What is reported beside `note` as the first blocked point: `meeting` if the note is `Conflict`, else
+// `None`.
 fn shown_conflict(note: Note, meeting: Option<Meeting>) -> Option<Meeting>
     ensures { result ≡ shown_conflict note meeting }
 {

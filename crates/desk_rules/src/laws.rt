@@ -1,13 +1,14 @@
-//! Laws of the definitions of a conflict and of a shared point. Each is the contract of a function that
-//! does nothing.
+//! Laws of the definitions of a conflict and of a shared point. Each is the contract of a function that does
+//! nothing. A caller makes the law known to the prover by calling the function. `levels` gives for each point
+//! the greatest priority that other plans hold there, or none; a spot is a point with such a priority.
 
 ghost use Rattle.std.specs.Prelude.{◌≡◌, ◌↔◌, ℕ, List, Option, true};
 ghost use Rattle.volume4d.specs.{Volume.Point, Volume.Block, Sweep.Spot, Sweep.IsFirst};
 ghost use Rattle.volume4d.specs.declared.slab.Slab.{Slab};
 ghost use Rattle.desk_rules.specs.Conflict.{AreSlabsOf, is_blocked_among, IsConflict, conflict, HaveAPoint, share_a_point};
 
-/// An area has only one conflict: two spots that satisfy `IsConflict` for the same area, levels and
-/// priorities are equal.
+/// An area has only one conflict: two spots (or none) that satisfy `IsConflict` for the same area, levels,
+/// priority and permitted priorities are equal.
 pub fn one_conflict()
     ensures { (permitted : List ℕ) (area : List Block) (levels : Point → Option ℕ) (priority : ℕ)
         (a b : Option Spot) → IsConflict permitted area levels priority a →
@@ -28,8 +29,8 @@ pub fn conflict_among_slabs()
         spot ≡ conflict permitted area levels priority }
 {}
 
-/// Two functions `f` and `g` that give the same greatest priority of others at each point give the same
-/// conflict.
+/// If two functions `f` and `g` give the same greatest priority of others at each point, `conflict` finds the
+/// same with both, and what is the conflict by `f` is the one by `g`.
 pub fn same_levels_same_conflict()
     ensures found { (permitted : List ℕ) (area : List Block) (f g : Point → Option ℕ)
         (priority : ℕ) →

@@ -41,7 +41,7 @@ impl Model for Operator {
 }
 
 impl Operator {
-    /// The operator called `name`, or `None` if that is not a valid name.
+    /// The operator called `name`, or `None` if `name` is not 1 to 32 bytes of `a-z`, `0-9` and `-`.
     pub fn try_new(name: &[u8]) -> Option<Operator>
         ensures { result ≡ (if is_operator_name name.now then Some name.now else None) }
     {
@@ -62,7 +62,7 @@ impl Operator {
         &self.bytes[..self.len]
     }
 
-    /// The name as text. It is always a valid name.
+    /// The name as text, which is always a valid name. It is ASCII, so the `unwrap` can't fail.
     pub fn as_str(&self) -> &str
         ensures value { result.now ≡ self.now }
         ensures valid { IsTrue (is_operator_name self.now) }
@@ -71,18 +71,17 @@ impl Operator {
     }
 }
 
-// The name, as `as_str` returns it.
 impl fmt::Display for Operator {
     ghost use Rattle.std.specs.Prelude.{Some};
 
     ghost output = { λ name. Some name };
 
+    // The name, as `as_str` returns it.
     fn fmt<W: fmt::Write>(&self, f: &mut fmt::Formatter<W>) -> fmt::Result {
         f.pad(self.as_str())
     }
 }
 
-// Names are compared and ordered as texts, byte by byte.
 impl PartialEq for Operator {
     ghost use Rattle.std.specs.Prelude.{nat_eq};
     ghost use Rattle.std.specs.{Cmp.partial_equiv_from_equiv, Cmp.Lexicographic.pointwise, Cmp.Lexicographic.nat_list_eq_equiv};
@@ -91,6 +90,7 @@ impl PartialEq for Operator {
 
     ghost laws = { partial_equiv_from_equiv nat_list_eq_equiv };
 
+    // Operators are equal if their names are the same bytes.
     fn eq(&self, other: &Operator) -> bool {
         self.as_bytes() == other.as_bytes()
     }
@@ -110,6 +110,7 @@ impl PartialOrd for Operator {
 
     ghost laws = { texts_po };
 
+    // The order of `cmp`; never `None`, since any two names can be compared.
     fn partial_cmp(&self, other: &Operator) -> Option<Ordering> {
         Some(self.cmp(other))
     }
@@ -127,6 +128,7 @@ impl Ord for Operator {
 
     ghost matches_eq = { texts_ties };
 
+    // Operators are ordered by their names, byte by byte; a name that begins another comes before it.
     fn cmp(&self, other: &Operator) -> Ordering {
         self.as_bytes().cmp(other.as_bytes())
     }

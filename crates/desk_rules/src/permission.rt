@@ -22,8 +22,7 @@ pub struct Permitted {
     count: usize,
 }
 
-/// Why priorities cannot be permitted. If several reasons apply, the first in the order of the
-/// variants is reported.
+/// Why priorities cannot be permitted. If several reasons apply, the first in this order is reported.
 #[derive(Clone, Copy, Debug, PartialEq, Eq)]
 pub enum PermitFault {
     /// There are more than 32 of them.
@@ -53,7 +52,7 @@ impl Model for Permitted {
 }
 
 impl Permitted {
-    /// No priority is permitted: equal priorities block each other.
+    /// Permits no priority: plans of equal priority block each other.
     pub fn none() -> Permitted
         ensures { result ≡ [] }
     {
@@ -63,7 +62,7 @@ impl Permitted {
         }
     }
 
-    /// Permits `priorities`: at most 32, each at most 1,000 and less than the next. There may be none.
+    /// Permits `priorities`: at most 32, each at most 1,000, and each less than the next. There may be none.
     ///
     /// # Errors
     ///
@@ -86,7 +85,7 @@ impl Permitted {
         })
     }
 
-    /// Whether plans of this priority may share points. Such a priority is at most 1,000.
+    /// Whether plans of this priority may share points with each other. False of a priority above 1,000.
     pub fn has(&self, priority: u32) -> bool
         ensures value { result ≡ is_permitted self.now priority }
         ensures in_range { IsTrue result → priority ≤ max_priority }
@@ -95,13 +94,13 @@ impl Permitted {
     }
 }
 
-// The fault as a sentence.
 impl fmt::Display for PermitFault {
     ghost use Rattle.std.specs.Prelude.{Some};
     ghost use Rattle.desk_rules.specs.Limits.{permit_fault_text};
 
     ghost output = { λ fault. Some (permit_fault_text fault) };
 
+    // The fault as a sentence, in lower case and without a full stop.
     fn fmt<W: fmt::Write>(&self, f: &mut fmt::Formatter<W>) -> fmt::Result {
         f.pad(match self {
             PermitFault::TooMany => "at most 32 priorities are permitted",

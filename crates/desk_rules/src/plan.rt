@@ -55,7 +55,7 @@ pub struct PutCall {
 }
 
 impl PlanRow {
-    /// A copy of the plan.
+    /// An equal plan, in memory of its own.
     ///
     /// # Errors
     ///
@@ -72,8 +72,8 @@ impl PlanRow {
         })
     }
 
-    /// How many spans the plan has: one for each range of each of its volumes along the S2 curve while it
-    /// is live, and none once it is closed. There are at most 32,768.
+    /// How many spans the plan has, at most 32,768. While the plan is live it has one for each range of
+    /// leaves of each of its volumes along the S2 curve. Once it is closed it has none.
     pub fn span_count(&self) -> u32
         ensures value { result ≡ row_spans self.now }
         ensures few { result ≤ max_volumes * max_cover }
@@ -85,8 +85,8 @@ impl PlanRow {
         }
     }
 
-    /// How many cells the plan has: for each of its volumes those of its cell list, or of the canonical cover
-    /// of its rectangle. A closed plan keeps them. There are at most 32,768.
+    /// How many cells the plan has, at most 32,768: for each of its volumes those of its cell list, or of the
+    /// canonical cover of its rectangle. A closed plan keeps them.
     pub fn cell_count(&self) -> u32
         ensures value { result ≡ row_cells self.now }
         ensures few { result ≤ max_volumes * max_cover }
@@ -113,7 +113,7 @@ pub fn states_of(stored: Option<&PlanRow>) -> Option<States>
 }
 
 impl PutCall {
-    /// A copy of the request, with all its fields.
+    /// An equal request, in memory of its own.
     ///
     /// # Errors
     ///

@@ -26,8 +26,8 @@ impl Model for PlanId {
 }
 
 impl PlanId {
-    /// The id that `text` writes, or `None` if `text` has none of the four forms of a UUID: hyphenated,
-    /// plain, in braces, or as a URN.
+    /// The id that `text` writes, in either case. `None` if `text` has none of the four forms of a UUID:
+    /// hyphenated, plain, in braces, or as a URN.
     pub fn try_parse(text: &str) -> Option<PlanId>
         ensures { result ≡ parsed text.now }
     {
@@ -37,8 +37,8 @@ impl PlanId {
         }
     }
 
-    /// Writes the id to `buffer` as text and returns the text: 36 bytes, hyphenated, in lower case
-    /// (RFC 9562). `try_parse` of this text gives the id again.
+    /// Writes the id to `buffer` as text and returns the text: 36 bytes, hyphenated, in lower case (RFC
+    /// 9562). `try_parse` of this text gives the id again.
     pub fn encode<'b>(&self, buffer: &'b mut [u8; 36]) -> &'b str
         ensures text { result.now ≡ hyphenated_text lower self.now }
         ensures parsed { Some self.now ≡ parsed result.now }
@@ -47,13 +47,13 @@ impl PlanId {
     }
 }
 
-// The hyphenated text of the id, in lower case.
 impl fmt::Display for PlanId {
     ghost use Rattle.std.specs.Prelude.{Some};
     ghost use Rattle.uuid.specs.Text.{hyphenated_text, lower};
 
     ghost output = { λ id. Some (hyphenated_text lower id) };
 
+    // The id as text: 36 bytes, hyphenated, in lower case.
     fn fmt<W: fmt::Write>(&self, f: &mut fmt::Formatter<W>) -> fmt::Result {
         write!(f, "{}", self.uuid)
     }

@@ -1,4 +1,4 @@
-//! Replies of the desk.
+//! Replies of the desk: the results of calls, before they are written as JSON.
 
 ghost use Rattle.std.specs.Prelude.{◌≡◌, IfOk};
 ghost use Rattle.desk_rules.specs.Outcome.{said_in};
@@ -8,7 +8,7 @@ use crate::words::{Note, PlanResult, PlanStatus};
 use std::alloc::AllocError;
 use volume4d::Meeting;
 
-/// A reply of the desk.
+/// A reply of the desk: the result of a call, before it is written as JSON.
 #[derive(Debug, Drop)]
 pub enum Reply {
     /// The desk is ready.
@@ -49,7 +49,7 @@ pub struct PutReply {
 }
 
 impl Reply {
-    /// A copy of the reply, which says the same. Only the memory of its list is another.
+    /// A copy of the reply, which says the same, in memory of its own.
     ///
     /// # Errors
     ///
@@ -68,7 +68,7 @@ impl Reply {
 }
 
 impl Shown {
-    /// A copy of the plan as it is shown.
+    /// An equal plan as it is shown, in memory of its own.
     ///
     /// # Errors
     ///
@@ -84,7 +84,8 @@ impl Shown {
     }
 }
 
-// A copy of `plans`, from the same allocator and in the same order; `AllocError` if memory runs out.
+// Copies of `plans`, in the same order; `AllocError` if memory runs out. The memory is from the allocator of
+// `plans`.
 fn copies(plans: &Vec<Shown>) -> Result<Vec<Shown>, AllocError>
     ensures { IfOk result (λ copies. copies.items ≡ plans.now.items) }
 {

@@ -1,4 +1,4 @@
-//! The terms of a desk: its settings.
+//! The terms of a desk: the settings that its administrator makes for all operators.
 
 ghost use Rattle.std.specs.Prelude.{◌≡◌};
 ghost use Rattle.desk_rules.specs.Outcome as spec;
@@ -49,7 +49,7 @@ impl Excess {
 }
 
 impl Terms {
-    /// The settings under which no priority is permitted, and spans and cells have no limit.
+    /// The default settings: no priority is permitted, and spans and cells have no limit.
     pub fn none() -> Terms
         ensures { result ≡ no_terms }
     {
@@ -60,8 +60,8 @@ impl Terms {
         }
     }
 
-    /// Which limits an operator exceeds. Its live plans have `spans` spans. All its plans, closed ones too,
-    /// have `cells` cells.
+    /// Which limits an operator exceeds. `spans` is how many spans its live plans have, and `cells` how many
+    /// cells all its plans have, closed ones too.
     pub fn excess(&self, spans: u64, cells: u64) -> Excess
         ensures { result ≡ excess_of self.now spans cells }
     {
@@ -72,7 +72,7 @@ impl Terms {
     }
 }
 
-// Whether `count` is greater than `limit`; `None` is no limit.
+// Whether `count` is greater than `limit`; false if there is no limit.
 fn exceeds(limit: Option<u32>, count: u64) -> bool
     ensures { result ≡ spec.exceeds limit count }
 {

@@ -1,4 +1,4 @@
-//! The state table: which states of a plan may follow which.
+//! The state table: which states of a plan (its usage and the state of its aircraft) may follow which.
 
 ghost use Rattle.std.specs.Prelude.{◌≡◌};
 ghost use Rattle.std.specs.Option.{option_copied};
@@ -24,16 +24,16 @@ pub enum Step {
     Keep,
 }
 
-/// The step from the plan `stored`, which has the request's id, or from no plan, to the states that `call`
-/// requests.
+/// What the state table says of `call`. `stored` is the operator's plan with the call's id, or `None` if
+/// there is none.
 pub fn transition(stored: Option<&PlanRow>, call: &PutCall) -> Step
     ensures { result ≡ step_of (option_copied stored.entry) call.now }
 {
     transition_from(states_of(stored), call)
 }
 
-/// The step from `stored`, the states of the plan with the request's id, or from no plan, to the states that
-/// `call` requests.
+/// What the state table says of `call`. `stored` are the states of the operator's plan with the call's id, or
+/// `None` if there is no such plan.
 pub fn transition_from(stored: Option<States>, call: &PutCall) -> Step
     ensures { result ≡ step_from stored call.now }
 {
@@ -49,7 +49,8 @@ pub fn transition_from(stored: Option<States>, call: &PutCall) -> Step
     }
 }
 
-// The step to the requested states `usage` and `aircraft` if no plan is stored.
+// What the state table says of the requested states if no plan is stored. A plan begins with a nominal
+// aircraft.
 fn from_none(usage: Usage, aircraft: Aircraft) -> Step
     ensures { result ≡ step_from_none usage aircraft }
 {
@@ -61,7 +62,8 @@ fn from_none(usage: Usage, aircraft: Aircraft) -> Step
     }
 }
 
-// The step to the requested states `usage` and `aircraft` if the stored plan is planned.
+// What the state table says of the requested states if the stored plan is planned. An aircraft can go off its
+// plan only in use.
 fn from_planned(usage: Usage, aircraft: Aircraft) -> Step
     ensures { result ≡ step_from_planned usage aircraft }
 {
@@ -74,8 +76,8 @@ fn from_planned(usage: Usage, aircraft: Aircraft) -> Step
     }
 }
 
-// The step to the requested states `usage` and `aircraft` if the stored plan is in use and its aircraft needs
-// no contingency procedure.
+// What the state table says of the requested states if the stored plan is in use and its aircraft needs no
+// contingency procedure. A plan in use can't be planned again.
 fn from_use(usage: Usage, aircraft: Aircraft) -> Step
     ensures { result ≡ step_from_use usage aircraft }
 {
@@ -87,8 +89,8 @@ fn from_use(usage: Usage, aircraft: Aircraft) -> Step
     }
 }
 
-// The step to the requested states `usage` and `aircraft` if the stored plan is in use and its aircraft needs
-// a contingency procedure.
+// What the state table says of the requested states if the stored plan is in use and its aircraft needs a
+// contingency procedure. Only this state, or the end of the flight, may follow.
 fn from_contingency(usage: Usage, aircraft: Aircraft) -> Step
     ensures { result ≡ step_from_contingency usage aircraft }
 {
@@ -99,7 +101,7 @@ fn from_contingency(usage: Usage, aircraft: Aircraft) -> Step
     }
 }
 
-// The step to the requested usage `usage` if the stored plan is closed: it may only be closed again.
+// What the state table says of the requested usage if the stored plan is closed: it may only be closed again.
 fn from_closed(usage: Usage) -> Step
     ensures { result ≡ step_from_closed usage }
 {

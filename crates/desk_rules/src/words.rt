@@ -16,7 +16,8 @@ pub enum Usage {
 }
 
 impl Usage {
-    /// Whether a plan in this state holds the points of its area: while it is planned or in use.
+    /// Whether a plan in this state holds the points of its area against other plans: it is planned or in
+    /// use.
     pub fn is_live(&self) -> bool
         ensures { result ≡ spec.is_live self.now }
     {

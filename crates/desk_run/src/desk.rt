@@ -39,7 +39,8 @@ impl<S> Model for Desk<S> {
 }
 
 impl<S> Desk<S> {
-    /// A desk over `store` with no terms: no priority is permitted, and spans and cells have no limit.
+    /// A desk over `store` with the default settings: no priority is permitted, and spans and cells have no
+    /// limit.
     pub fn new(store: S) -> Desk<S>
         ensures { result ≡ record { store = store; terms = no_terms } }
     {
@@ -49,7 +50,7 @@ impl<S> Desk<S> {
         }
     }
 
-    /// Takes the desk apart and returns its store. The terms are dropped.
+    /// Takes the desk apart and returns its store. The settings are dropped.
     pub fn into_store(self) -> S
         ensures { result ≡ self.store }
     {
@@ -57,7 +58,7 @@ impl<S> Desk<S> {
     }
 
     /// Permits these priorities, and no others, for later calls: two plans of the same priority may share
-    /// points if it is permitted. Stored plans stay as they are.
+    /// points if that priority is permitted. Stored plans stay as they are.
     pub fn permit(&mut self, permitted: Permitted)
         ensures { self.new ≡ record {
           store = self.old.store;
@@ -67,7 +68,7 @@ impl<S> Desk<S> {
         self.terms.permitted = permitted;
     }
 
-    /// Replaces the terms for later calls. Stored plans stay as they are.
+    /// Replaces the terms (the settings of the desk) for later calls. Stored plans stay as they are.
     pub fn set_terms(&mut self, terms: Terms)
         ensures { self.new ≡ record { store = self.old.store; terms = terms } }
     {
@@ -85,8 +86,8 @@ impl<S: PlanStore> Desk<S> {
     ///
     /// # Errors
     ///
-    /// `Ceiling` if `ceiling` is above 1,000; `OutOfMemory`; `Store` if the store failed. Nothing has changed
-    /// then.
+    /// `Ceiling` if `ceiling` is above 1,000; else `OutOfMemory` if memory runs out, or `Store` if the store
+    /// failed. The operators and plans are unchanged then.
     pub fn enrol(&mut self, operator: &Operator, ceiling: u32) -> Result<(), DeskFault>
         ensures ok { IsHonest (S.doubt self.new.store) → OnOk result (world_of S.content self.new
             ≡ enrolled (world_of S.content self.old) operator.now ceiling) }
@@ -108,12 +109,12 @@ impl<S: PlanStore> Desk<S> {
     }
 
     /// Prepares the reply to `asked`, an operator's call, at `moment` (a Unix second), and the change for
-    /// `commit`. Changes nothing.
+    /// `commit`. Changes nothing. New lists take their memory from `alloc`.
     ///
     /// # Errors
     ///
     /// `UnknownOperator` if the operator isn't enrolled; `NoSuchPlan` if it has no plan with the id of the
-    /// call; `OutOfMemory`; `Store` if the store failed.
+    /// call to show or to delete one; `OutOfMemory` if memory runs out; `Store` if the store failed.
     pub fn prepare(
         &mut self,
         alloc: Global,
@@ -131,12 +132,14 @@ impl<S: PlanStore> Desk<S> {
         prepare_over(alloc, &mut self.store, &self.terms, moment, asked)
     }
 
-    /// Makes the change of a prepared call, if there is one, and returns its reply. On an error the reply is
-    /// dropped.
+    /// Makes the change of a prepared call, if it has one, and returns its reply. The change has to fit the
+    /// operators and plans: it does as long as they are as they were when it was prepared. On an error the
+    /// reply is dropped.
     ///
     /// # Errors
     ///
-    /// `OutOfMemory`; `Store` if the store failed. Nothing has changed then.
+    /// `OutOfMemory` if memory runs out, `Store` if the store failed. The operators and plans are unchanged
+    /// then.
     pub fn commit(&mut self, pending: Pending) -> Result<Reply, DeskFault>
         requires { IsHonest (S.doubt self.old.store) →
             CanCommit (world_of S.content self.old) pending }
@@ -155,11 +158,12 @@ impl<S: PlanStore> Desk<S> {
         Ok(reply)
     }
 
-    /// Answers `asked`, an operator's call, at `moment` (a Unix second), and makes its change.
+    /// Answers `asked`, an operator's call, at `moment` (a Unix second), and makes its change: `prepare`,
+    /// then `commit`.
     ///
     /// # Errors
     ///
-    /// Those of `prepare`. Nothing has changed then.
+    /// Those of `prepare`. The operators and plans are unchanged then.
     pub fn call(&mut self, alloc: Global, moment: i64, asked: &Asked) -> Result<Reply, DeskFault>
         ensures reported { IsHonest (S.doubt self.new.store) →
             ReportsReply (world_of S.content self.old) moment asked.now result }

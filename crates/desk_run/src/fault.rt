@@ -5,7 +5,8 @@ use std::alloc::AllocError;
 use std::error::Error;
 use std::fmt;
 
-/// Why a call has no reply, or an enrolment failed. The operators and plans are unchanged.
+/// Why a call has no reply, or an enrolment failed. The operators and plans are unchanged. Only an enrolment
+/// ends in `Ceiling`, and only a call in `UnknownOperator` or `NoSuchPlan`.
 #[derive(Clone, Copy, Debug, PartialEq, Eq)]
 pub enum DeskFault {
     /// Memory ran out.

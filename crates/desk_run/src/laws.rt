@@ -1,4 +1,6 @@
-//! Laws of the definitions. Each is the contract of a function that does nothing.
+//! Laws of the definitions. Each is the contract of a function that does nothing. A caller makes the law
+//! known to the prover by calling the function. `step` is the state of the desk after an operator's call at a
+//! moment (a Unix second).
 
 ghost use Rattle.std.specs.Prelude.{◌≡◌, ℕ, ℤ, List, Some, false};
 ghost use Rattle.std.specs.{List.AllZip, Ordering.is_eq};
@@ -8,22 +10,22 @@ ghost use Rattle.desk_run.specs.Verdicts.{DeskWorld, enrolled, side, held_in, ma
 ghost use Rattle.desk_run.specs.Calls.{HoldAlike, OwnAlike, AreCallsSameFor, TimedCall, calls_of, met_by_calls};
 ghost use Rattle.desk_store.specs.World.{IsWorld, plans_of, stored_of, text_cmp};
 
-/// A request changes no other operator's plans or ceiling, and not the desk's terms.
+/// A request of one operator changes no other operator's plans or ceiling, and not the desk's settings.
 pub fn others_are_kept()
     ensures { (w : DeskWorld) (operator other : List ℕ) (moment : ℤ) (call : Call) →
         is_eq (text_cmp other operator) ≡ false →
         side (step w operator moment call) other ≡ side w other }
 {}
 
-/// An operator's ceiling and plans after its request depend only on those before, on the request and its
-/// moment, on what others hold, and on the desk's terms, which stay.
+/// An operator's ceiling and plans after its request depend only on its ceiling and plans before, on the
+/// request and its moment, on what others hold, and on the desk's settings, which stay.
 pub fn own_is_decided()
     ensures { (w : DeskWorld) (operator : List ℕ) (moment : ℤ) (call : Call) →
         side (step w operator moment call) operator
         ≡ side_left (side w operator) (held_in w operator) moment call }
 {}
 
-/// Closing a closed plan changes nothing.
+/// A request to delete a plan that is closed already changes nothing.
 pub fn closing_a_closed_plan_changes_nothing()
     ensures { (w : DeskWorld) (operator id : List ℕ) (moment : ℤ) (row : PlanRow) → IsWorld w.content →
         stored_of id (plans_of operator w.content) ≡ Some row → row.usage ≡ usage.Closed →
@@ -36,7 +38,7 @@ pub fn without_a_change_all_stays()
         makes_change w operator moment call ≡ false → step w operator moment call ≡ w }
 {}
 
-/// A call and an enrolment are idempotent: made twice in a row, they result in the same state as made once.
+/// A call and an enrolment are idempotent: made twice in a row, each results in the same state as made once.
 /// (The second answer may differ: a plan that is now closed can't be changed, and a clear finds no plan.)
 pub fn repeated()
     ensures call { (w : DeskWorld) (operator : List ℕ) (moment : ℤ) (call : Call) →
@@ -45,10 +47,11 @@ pub fn repeated()
         enrolled (enrolled w name ceiling) name ceiling ≡ enrolled w name ceiling }
 {}
 
-/// Noninterference: take two runs, `calls` from `v` and `others` from `w`, with the same calls of `operator`
-/// in the same order and at the same moments, from states in which it owns the same, on the same terms. If
-/// other operators hold the same before each of these calls, then the operator is answered the same, and owns
-/// the same after each of them and at the end, whatever calls others make in between.
+/// Noninterference. Take two runs: `calls` from the state `v`, and `others` from the state `w`. `operator`
+/// makes the same calls in both, in the same order and at the same moments. Its ceiling, its plans and the
+/// settings are the same in `v` and `w`. If other operators hold the same before each of its calls in both
+/// runs, it is answered the same, and owns the same after each of its calls and at the end. What calls others
+/// make in between doesn't matter.
 pub fn two_runs()
     ensures { (operator : List ℕ) (v w : DeskWorld) (calls others : List TimedCall) →
         OwnAlike operator v w → calls_of operator calls ≡ calls_of operator others →

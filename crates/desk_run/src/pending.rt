@@ -1,4 +1,7 @@
 //! Calls that are prepared: each has its reply, and its change to be committed.
+//!
+//! In contracts, `IsHonest` says that the storage is intact, the clause `reads` that a call only reads, and
+//! the clause `cause` that the store has counted an error that is returned as `Store`.
 
 ghost use Rattle.std.specs.Prelude.{◌≡◌, IfOk, IfErr};
 ghost use Rattle.desk_store.specs.Changes.{OnlyReads, IsHonest};
@@ -49,7 +52,7 @@ impl Pending {
         self.change.is_some()
     }
 
-    /// A copy of the reply and the change.
+    /// A copy of the reply and of the change, in memory of its own.
     ///
     /// # Errors
     ///
@@ -66,7 +69,8 @@ impl Pending {
 }
 
 // Prepares the reply to `asked`, an operator's call, at `moment` (a Unix second), and its change, over
-// `store` on these terms. Changes nothing. `UnknownOperator` if the operator is not enrolled.
+// `store` under the settings `terms`. Changes nothing. `UnknownOperator` if the operator is not enrolled,
+// even for a call that needs no plan; then the errors of the kind of call.
 pub fn prepare_over<S: PlanStore>(
     alloc: Global,
     store: &mut S,

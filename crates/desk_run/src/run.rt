@@ -33,7 +33,7 @@ pub struct Ran {
 }
 
 impl Outcome {
-    /// A copy of the outcome, which is reported the same.
+    /// An outcome that says the same, in memory of its own.
     ///
     /// # Errors
     ///
@@ -50,7 +50,7 @@ impl Outcome {
 }
 
 impl Ran {
-    /// A copy of the result, whose outcomes are reported the same.
+    /// A result that says the same, in memory of its own.
     ///
     /// # Errors
     ///
@@ -69,7 +69,8 @@ impl Ran {
 
 impl<S: PlanStore> Desk<S> {
     /// Answers `calls` in order, each at its moment (a Unix second), until memory runs out or the store fails
-    /// in one. A call that ends in `UnknownOperator` or `NoSuchPlan` does not stop the run.
+    /// in one: `stopped` says so, and later calls are not made. A call that ends in `UnknownOperator` or
+    /// `NoSuchPlan` does not stop the run.
     ///
     /// # Errors
     ///
@@ -101,7 +102,7 @@ impl<S: PlanStore> Desk<S> {
     }
 }
 
-// A copy of each outcome, in their order.
+// A copy of each outcome, in their order; `AllocError` if memory runs out.
 fn copies(outcomes: &Vec<Outcome>) -> Result<Vec<Outcome>, AllocError>
     ensures { IfOk result (λ copies. map as_reported copies.items ≡ map as_reported outcomes.now.items) }
 {
@@ -112,7 +113,8 @@ fn copies(outcomes: &Vec<Outcome>) -> Result<Vec<Outcome>, AllocError>
     Ok(copies)
 }
 
-// The outcome of a call that returned `answered`, or the error that stops a run: `OutOfMemory` or `Store`.
+// The outcome of a call that returned `answered`. An error other than `UnknownOperator` and `NoSuchPlan` is
+// passed on: it stops a run.
 fn outcome_of(answered: Result<Reply, DeskFault>) -> Result<Outcome, DeskFault>
     ensures { result ≡ spec.call_outcome answered }
 {

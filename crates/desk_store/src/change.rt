@@ -34,7 +34,7 @@ pub enum Change {
 }
 
 impl Change {
-    /// A copy of the change. Only the memory of its list of ids is another.
+    /// A copy of the change, in memory of its own.
     ///
     /// # Errors
     ///

@@ -13,13 +13,13 @@ pub enum StoreFault {
     Store,
 }
 
-// The fault as a sentence.
 impl fmt::Display for StoreFault {
     ghost use Rattle.std.specs.Prelude.{Some};
     ghost use Rattle.desk_store.specs.Changes.{store_fault_text};
 
     ghost output = { λ fault. Some (store_fault_text fault) };
 
+    // The fault as a sentence, in lower case and without a full stop.
     fn fmt<W: fmt::Write>(&self, f: &mut fmt::Formatter<W>) -> fmt::Result {
         f.pad(match self {
             StoreFault::OutOfMemory => "out of memory",
@@ -30,25 +30,25 @@ impl fmt::Display for StoreFault {
 
 impl Error for StoreFault {}
 
-// Each failed allocation is `OutOfMemory`.
 impl From<AllocError> for StoreFault {
     ghost use Rattle.std.specs.Prelude.{◌≡◌};
     ghost use Rattle.desk_store.specs.declared.fault.StoreFault.TheVariants.{OutOfMemory};
 
     ghost from_gives = { λ _ e. e ≡ OutOfMemory };
 
+    // An allocation failed, so memory ran out.
     fn from(_e: AllocError) -> StoreFault {
         StoreFault::OutOfMemory
     }
 }
 
-// The value that found no memory is dropped.
 impl<T: Drop> From<AllocFailed<T>> for StoreFault {
     ghost use Rattle.std.specs.Prelude.{◌≡◌};
     ghost use Rattle.desk_store.specs.declared.fault.StoreFault.TheVariants.{OutOfMemory};
 
     ghost from_gives = { λ _ e. e ≡ OutOfMemory };
 
+    // A list or map couldn't grow, so memory ran out. The value that was to be added is dropped.
     fn from(_e: AllocFailed<T>) -> StoreFault {
         StoreFault::OutOfMemory
     }

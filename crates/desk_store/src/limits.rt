@@ -1,5 +1,6 @@
 //! Limits that the types of a row's parts guarantee, stated as clauses. These functions change nothing: they
-//! call methods whose contracts state the limits, and are called for their own clauses alone.
+//! call methods whose contracts state the limits, and are called for their own clauses alone. So each body
+//! drops what its calls return.
 
 ghost use Rattle.std.specs.Prelude.{IsTrue};
 ghost use Rattle.std.specs.List.{AllByRecursion};
@@ -14,7 +15,7 @@ use desk_rules::plan_id::PlanId;
 use s2_cellid::CellId;
 use volume4d::{Footprint, Volume};
 
-/// Proves that an operator has a valid name.
+/// Proves that an operator has a valid name, by the contract of `as_str`.
 pub(crate) fn name_is_valid(operator: &Operator)
     ensures { IsTrue (is_operator_name operator.now) }
 {
@@ -29,7 +30,7 @@ pub(crate) fn row_is_valid(row: &PlanRow)
     volumes_are_valid(row.area.volumes());
 }
 
-// Proves that an id has 16 bytes.
+// Proves that an id has 16 bytes, by the contract of `encode`.
 fn id_is_valid(id: &PlanId)
     ensures { IsId id.now }
 {
@@ -37,7 +38,7 @@ fn id_is_valid(id: &PlanId)
     let _text = id.encode(&mut buffer);
 }
 
-// Proves that each volume is within the limits.
+// Proves that each volume is within the limits of `volume4d`.
 fn volumes_are_valid(volumes: &[Volume])
     ensures { AllByRecursion IsValidVolume volumes.now }
 {
@@ -46,7 +47,8 @@ fn volumes_are_valid(volumes: &[Volume])
     }
 }
 
-// Proves that a volume is within the limits.
+// Proves that a volume is within the limits of `volume4d`, by the contracts of its window and of its
+// footprint.
 fn volume_is_valid(volume: &Volume)
     ensures { IsValidVolume volume.now }
 {
@@ -54,7 +56,8 @@ fn volume_is_valid(volume: &Volume)
     footprint_is_valid(volume.footprint());
 }
 
-// Proves that the cells of a footprint have valid ids, or that its rectangle is valid.
+// Proves that the cells of a footprint have valid ids, or that its rectangle is valid, by the contract of
+// `level`.
 fn footprint_is_valid(footprint: &Footprint)
     ensures { HasValidParts (shape_of footprint.now) }
 {
@@ -66,7 +69,7 @@ fn footprint_is_valid(footprint: &Footprint)
     }
 }
 
-// Proves that each cell has a valid id.
+// Proves that each cell has a valid id, by the contract of `raw`.
 fn cells_are_valid(cells: &[CellId])
     ensures { AllByRecursion IsCellId cells.now }
 {

@@ -1,4 +1,6 @@
-//! A store in memory.
+//! A store in memory. It is asked what plans hold in extents, which are slabs: ranges of leaves along the S2
+//! curve, each in one range of altitudes and one of seconds. In private functions, an `AllocError` says that
+//! memory ran out.
 
 ghost use Rattle.std.specs.Prelude.{◌≡◌, ◌+◌, ◌<◌, ◌≤◌, ◌^◌, ◌&&◌, ⊤, true, length, [], IfOk, OnOk, OnErr};
 ghost use Rattle.std.specs.{List.Sorted.IsNonDecreasingBy, Ordering.is_eq};
@@ -69,7 +71,8 @@ impl ListStore {
     }
 }
 
-// The storage is memory: there is no doubt, no fault, and no state to find after a crash.
+// The storage is memory: there is no doubt, no fault, and no state to find after a crash. A method fails only
+// if memory runs out.
 impl PlanStore for ListStore {
     ghost use Rattle.desk_store.specs.World.{World};
 
@@ -83,22 +86,28 @@ impl PlanStore for ListStore {
 
     ghost may_leave = { λ _ _. ⊥ };
 
+    // The operator's ceiling, or `None` if it is not enrolled. It never fails.
     fn ceiling(&mut self, operator: &Operator) -> Result<Option<u32>, StoreFault> {
         Ok(ceiling_in(&self.operators, operator))
     }
 
+    // A copy of the operator's plan with this id, or `None` if there is none.
     fn plan(&mut self, operator: &Operator, id: &PlanId) -> Result<Option<PlanRow>, StoreFault> {
         Ok(find_plan(&self.plans, operator, id)?)
     }
 
+    // The states of the operator's plan with this id, or `None` if there is none. It never fails.
     fn states(&mut self, operator: &Operator, id: &PlanId) -> Result<Option<States>, StoreFault> {
         Ok(find_states(&self.plans, operator, id))
     }
 
+    // How many plans the operator has, closed ones included; 0 if it is not enrolled. It never fails.
     fn own_count(&mut self, operator: &Operator) -> Result<u32, StoreFault> {
         Ok(count_in(&self.operators, operator))
     }
 
+    // The sizes of the operator's plans, without the one with this id: spans of live plans, cells of all. It
+    // never fails.
     fn own_sizes(&mut self, operator: &Operator, id: &PlanId) -> Result<Sizes, StoreFault> {
         // By these laws, the sums fit 32 bits.
         spans_are_few();
@@ -106,10 +115,12 @@ impl PlanStore for ListStore {
         Ok(sizes_of(&self.plans, operator, id))
     }
 
+    // Copies of the operator's plans, ascending by id.
     fn own_plans(&mut self, operator: &Operator) -> Result<Vec<PlanRow>, StoreFault> {
         Ok(rows_of(self.alloc, &self.plans, operator)?)
     }
 
+    // As `rivals_near`, with one extent.
     fn rivals(
         &mut self,
         operator: &Operator,
@@ -120,6 +131,8 @@ impl PlanStore for ListStore {
         self.rivals_near(operator, id, least, slice::from_ref(extent))
     }
 
+    // The slabs of live plans of priority `least` or more that overlap an extent, without those of the
+    // operator's plan with this id.
     fn rivals_near(
         &mut self,
         operator: &Operator,
@@ -130,6 +143,7 @@ impl PlanStore for ListStore {
         Ok(rivals_of(self.alloc, &self.plans, operator, id, least, extents)?)
     }
 
+    // All slabs of the live plans of other operators; none if there are no extents.
     fn held_by_others(
         &mut self,
         operator: &Operator,
@@ -138,6 +152,7 @@ impl PlanStore for ListStore {
         Ok(others_in(self.alloc, &self.plans, operator, extents)?)
     }
 
+    // Makes the change. If memory runs out, nothing changes.
     fn apply(&mut self, change: &Change) -> Result<(), StoreFault> {
         match change {
             Change::Enrol { operator, ceiling } => self.enrol(*operator, *ceiling)?,
@@ -189,7 +204,8 @@ impl ListStore {
         Ok(())
     }
 
-    // Closes the operator's plan with this id. It stays in the store.
+    // Closes the operator's plan with this id. It stays in the store. The caller has to know that there is
+    // one.
     fn close(&mut self, operator: &Operator, id: &PlanId)
         requires { IsFitting (change.Close operator.now id.now) self.old }
         ensures { self.new ≡ changed_by (change.Close operator.now id.now) self.old }
@@ -199,7 +215,7 @@ impl ListStore {
         }
     }
 
-    // Removes the operator's plans with these ids, and counts those that are left.
+    // Removes the operator's plans with these ids, and sets the number of its plans anew.
     fn clear(&mut self, operator: &Operator, ids: &Vec<PlanId>)
         requires { IsFitting (change.Clear operator.now ids.now) self.old }
         ensures { self.new ≡ changed_by (change.Clear operator.now ids.now) self.old }
@@ -232,7 +248,7 @@ fn count_in(operators: &Operators, operator: &Operator) -> u32
         .map_or(0, |enrolment| enrolment.plan_count)
 }
 
-// Sets the number of plans in the operator's entry, if it is enrolled.
+// Sets the number of plans in the operator's entry. If the operator is not enrolled, nothing changes.
 fn set_count(operators: &mut Operators, operator: &Operator, count: u32)
     ensures { operators.new.entries ≡ with_count operator.now count operators.old.entries }
 {
@@ -298,7 +314,7 @@ fn sizes_of(plans: &Plans, operator: &Operator, id: &PlanId) -> Sizes
     sizes
 }
 
-// The sizes of `plan`, whose operator and id are `key`; no spans and no cells if that id is `id`.
+// The sizes of `plan`, whose operator and id are `key`; no spans and no cells if the plan's id is `id`.
 fn sizes_unless(id: &PlanId, key: &(Operator, PlanId), plan: &Plan) -> Sizes
     ensures spans { result.spans ≡ count_unless row_spans id.now (filed_of (key.now, plan.now)).row }
     ensures cells { result.cells ≡ count_unless row_cells id.now (filed_of (key.now, plan.now)).row }
@@ -323,9 +339,9 @@ fn rows_of(alloc: Global, plans: &Plans, operator: &Operator) -> Result<Vec<Plan
     Ok(rows)
 }
 
-// The slabs of live plans of priority `least` or a greater one that overlap one of `extents`, without those
-// of the operator's plan with this id, in memory from `alloc`. They ascend by first leaf, so that one pass
-// can compare them.
+// The slabs of live plans of priority `least` or more that overlap one of `extents`, without those of the
+// operator's plan with this id. They ascend by first leaf, so that one pass can compare them with a plan's.
+// The list takes its memory from `alloc`.
 fn rivals_of(
     alloc: Global,
     plans: &Plans,
@@ -347,7 +363,7 @@ fn rivals_of(
 }
 
 /// Sorts slabs by their first leaves, so that one pass can compare them with a plan's. The greatest priority
-/// at each point stays.
+/// at each point stays as it is.
 pub fn in_order(mut helds: Vec<Held>) -> Vec<Held>
     ensures same { (x : Point) → top_held result.items x ≡ top_held helds.items x }
     ensures order { IsNonDecreasingBy (λ h. h.slab.first) result.items }
@@ -356,8 +372,8 @@ pub fn in_order(mut helds: Vec<Held>) -> Vec<Held>
     helds
 }
 
-// Appends the slabs of `plan` that overlap one of `extents`, unless it is closed, is the operator's own with
-// this id, or has a priority below `least`. `key` is the plan's operator and id.
+// Appends the slabs of `plan` that overlap one of `extents`, unless it is closed, is the operator's own plan
+// with this id, or has a priority below `least`. `key` is the plan's operator and id.
 fn push_rival(
     helds: &mut Vec<Held>,
     operator: &Operator,
@@ -380,7 +396,7 @@ fn push_rival(
 }
 
 // All slabs of the live plans of other operators, inside and outside `extents`; none if there are no extents.
-// `alloc` holds the list. `AllocError` if memory runs out.
+// The list takes its memory from `alloc`.
 fn others_in(
     alloc: Global,
     plans: &Plans,
@@ -416,14 +432,14 @@ fn push_other(
     plan.push_if_live(helds)
 }
 
-// Whether the plan with this key (operator and id) belongs to the operator.
+// Whether the plan with this key (its operator and id) belongs to the operator.
 fn is_by(operator: &Operator, key: &(Operator, PlanId)) -> bool
     ensures { result ≡ is_eq (text_cmp operator.now key.now.0) }
 {
     operator.cmp(&key.0).is_eq()
 }
 
-// Whether the plan with this key is the operator's plan with the id `id`.
+// Whether the plan with this key (its operator and id) is the operator's plan with the id `id`.
 fn is_own(operator: &Operator, id: &PlanId, key: &(Operator, PlanId)) -> bool
     ensures { result ≡
         (is_eq (text_cmp operator.now key.now.0) && is_eq (text_cmp id.now key.now.1)) }
@@ -431,7 +447,7 @@ fn is_own(operator: &Operator, id: &PlanId, key: &(Operator, PlanId)) -> bool
     is_by(operator, key) && id.cmp(&key.1).is_eq()
 }
 
-// Whether the plan with this key is one of the operator's plans with these ids.
+// Whether the plan with this key (its operator and id) is one of the operator's plans with these ids.
 fn is_among(operator: &Operator, ids: &[PlanId], key: &(Operator, PlanId)) -> bool
     ensures { result ≡ is_one_of operator.now ids.now key.now }
 {

@@ -1,4 +1,6 @@
-//! A plan as a store in memory keeps it.
+//! A plan as a store in memory keeps it. A slab of a plan has the points of one range of a volume's leaves
+//! (numbered along the S2 curve) in the volume's altitudes and times. An extent is a slab for which a store
+//! is asked.
 
 ghost use Rattle.std.specs.Prelude.{◌≡◌, ◌&&◌, cond, false, nat_le, IfOk, OnOk};
 ghost use Rattle.std.specs.List.{list_any};
@@ -62,7 +64,7 @@ impl Plan {
         })
     }
 
-    /// A copy of the plan as a row, with the id `id`.
+    /// A copy of the plan as a row, with the id `id`, which is part of the plan's key.
     ///
     /// # Errors
     ///
@@ -89,7 +91,8 @@ impl Plan {
         }
     }
 
-    /// The sizes of the plan: the spans of its area along the S2 curve if it is live, and its cells.
+    /// The sizes of the plan: the number of its spans along the S2 curve, 0 if it is closed, and that of its
+    /// cells.
     pub fn sizes(&self) -> Sizes
         ensures spans { result.spans ≡ cond (is_live self.now.usage) (area_spans self.now.area) 0 }
         ensures cells { result.cells ≡ area_cells self.now.area }
@@ -111,7 +114,8 @@ impl Plan {
         self.usage = Usage::Closed;
     }
 
-    /// Whether the plan's bounds overlap one of `extents`. If not, no extent shares a point with the plan.
+    /// Whether the plan's bounds overlap one of `extents`. If false, no extent shares a point with the plan;
+    /// if true, one may.
     pub fn may_meet(&self, extents: &[Slab]) -> bool
         ensures { result ≡ false → SharesNoPoint self.now.area extents.now }
     {
@@ -125,11 +129,12 @@ impl Plan {
         self.usage.is_live() && self.priority >= least
     }
 
-    /// Appends the slabs of the plan's area that overlap one of `extents`, with its priority.
+    /// Appends to `helds` the slabs of the plan's area that overlap one of `extents`, with its priority, even
+    /// if the plan is closed.
     ///
     /// # Errors
     ///
-    /// `AllocError` if memory runs out.
+    /// `AllocError` if memory runs out; some slabs may be appended then.
     pub fn push_near(&self, helds: &mut Vec<Held>, extents: &[Slab]) -> Result<(), AllocError>
         ensures { OnOk result (AddsLevelNear extents.now helds.old.items helds.new.items
             (λ x. level_where (area_has self.now.area x) self.now.priority)) }
@@ -137,11 +142,12 @@ impl Plan {
         push_overlapping(helds, &self.slabs, self.priority, extents)
     }
 
-    /// Appends all slabs of the plan's area with its priority if it is live, and none otherwise.
+    /// Appends to `helds` all slabs of the plan's area with its priority if the plan is live, and none
+    /// otherwise.
     ///
     /// # Errors
     ///
-    /// `AllocError` if memory runs out.
+    /// `AllocError` if memory runs out; some slabs may be appended then.
     pub fn push_if_live(&self, helds: &mut Vec<Held>) -> Result<(), AllocError>
         ensures { OnOk result (AddsLevel helds.old.items helds.new.items
             (λ x. level_where (is_live self.now.usage && area_has self.now.area x) self.now.priority)) }

@@ -1,4 +1,5 @@
-//! Quota usage: the numbers of spans and of cells that plans have.
+//! Quota usage: the numbers of spans and of cells that plans have. A volume has one span for each range of
+//! its leaves along the S2 curve.
 
 ghost use Rattle.std.specs.Prelude.{◌≡◌, ◌+◌, ◌<◌, ◌^◌};
 ghost use Rattle.desk_rules.specs.Outcome.{row_cells, row_spans};
@@ -22,7 +23,7 @@ impl Sizes {
         Sizes { spans: 0, cells: 0 }
     }
 
-    /// The sizes of the plan `row`: no spans if it is closed.
+    /// The sizes of the plan `row`. A closed plan has no spans, but keeps its cells.
     pub fn of(row: &PlanRow) -> Sizes
         ensures { result ≡ record { spans = row_spans row.now; cells = row_cells row.now } }
     {
@@ -32,7 +33,7 @@ impl Sizes {
         }
     }
 
-    /// The sums of the spans and of the cells. A sum that exceeds 32 bits becomes `u32::MAX`.
+    /// The sums of the spans and of the cells. A sum that doesn't fit 32 bits becomes `u32::MAX`.
     pub fn plus(self, other: Sizes) -> Sizes
         ensures spans { self.spans + other.spans < 2 ^ 32 → result.spans ≡ self.spans + other.spans }
         ensures cells { self.cells + other.cells < 2 ^ 32 → result.cells ≡ self.cells + other.cells }

@@ -1,4 +1,6 @@
-//! Stores of plans, as a desk uses them.
+//! Stores of plans, as a desk uses them. A store is asked what plans hold in extents. An extent is a slab: a
+//! range of leaves along the S2 curve, in one range of altitudes and one of seconds. The answer is slabs,
+//! each with the priority of the plan that holds it.
 
 ghost use Rattle.std.specs.Prelude.{◌≡◌, ℕ, length, Option, IfOk, IfErr, OnOk, OnErr};
 ghost use Rattle.desk_store.specs.Changes.{OnlyReads, Remembers};
@@ -23,6 +25,9 @@ use volume4d::{Held, Slab};
 /// it could have found before; after one in a change, such a state or the changed content; and once a change
 /// has succeeded, the changed content only. A change that failed may still be found by the next start, though
 /// the running store doesn't show it.
+///
+/// In contracts, `IsHonest` says that the storage is intact, the clause `reads` that a call only reads, and
+/// the clause `cause` that the store has counted an error that it returns as `Store`.
 pub trait PlanStore {
     ghost use Rattle.desk_store.specs.{Changes.changed_by, Changes.IsFitting, Changes.IsHonest, Changes.IsCounted, World.LeavesOldOr, World.LeavesOnly};
 
@@ -36,7 +41,7 @@ pub trait PlanStore {
     /// decreases.
     ghost faults: { Self → ℕ };
 
-    /// The states that a start can find if the program stops now, by a crash or otherwise; None is an
+    /// The states that a start can find if the program stops now, by a crash or otherwise; `None` is an
     /// invalid database. A clause about it holds for a crash within the call, too.
     ghost may_leave: { Self → Option World → Type 0 };
 
@@ -53,14 +58,15 @@ pub trait PlanStore {
         ensures reads { OnlyReads content doubt faults may_leave is_shielded self.old self.new }
         ensures cause { IfErr result (IsCounted faults self.old self.new) };
 
-    /// The operator's plan with this id, or `None` if there is none.
+    /// A copy of the operator's plan with this id, or `None` if there is none.
     fn plan(&mut self, operator: &Operator, id: &PlanId) -> Result<Option<PlanRow>, StoreFault>
         ensures value { IsHonest (doubt self.new) →
             IfOk result (λ row. row ≡ stored_of id.now (plans_of operator.now (content self.old))) }
         ensures reads { OnlyReads content doubt faults may_leave is_shielded self.old self.new }
         ensures cause { IfErr result (IsCounted faults self.old self.new) };
 
-    /// The states of the operator's plan with this id, or `None` if there is none.
+    /// The usage of the operator's plan with this id and the state of its aircraft, or `None` if there is
+    /// none.
     fn states(&mut self, operator: &Operator, id: &PlanId) -> Result<Option<States>, StoreFault>
         ensures value { IsHonest (doubt self.new) → IfOk result (λ found.
             found ≡ states_of (stored_of id.now (plans_of operator.now (content self.old)))) }
@@ -74,16 +80,16 @@ pub trait PlanStore {
         ensures reads { OnlyReads content doubt faults may_leave is_shielded self.old self.new }
         ensures cause { IfErr result (IsCounted faults self.old self.new) };
 
-    /// The sizes of the operator's plans, without its plan with this id, if there is one: the spans of live
-    /// plans, and the cells of all.
+    /// The sizes of the operator's plans, without its plan with this id, if there is one: how many spans its
+    /// live plans have, and how many cells all its plans have.
     fn own_sizes(&mut self, operator: &Operator, id: &PlanId) -> Result<Sizes, StoreFault>
         ensures value { IsHonest (doubt self.new) → IfOk result (λ sizes.
             sizes ≡ sizes_beside id.now (plans_of operator.now (content self.old))) }
         ensures reads { OnlyReads content doubt faults may_leave is_shielded self.old self.new }
         ensures cause { IfErr result (IsCounted faults self.old self.new) };
 
-    /// The operator's plans, at most 200, ascending by id, each once. The clause `content` is as in
-    /// `ceiling`.
+    /// The operator's plans, at most 200, ascending by id, each once. The clause `content` adds, as in
+    /// `ceiling`, that all names, ids and volumes in the store are valid.
     fn own_plans(&mut self, operator: &Operator) -> Result<Vec<PlanRow>, StoreFault>
         ensures value { IsHonest (doubt self.new) →
             IfOk result (λ rows. rows.items ≡ plans_of operator.now (content self.old)) }
@@ -91,9 +97,10 @@ pub trait PlanStore {
         ensures reads { OnlyReads content doubt faults may_leave is_shielded self.old self.new }
         ensures cause { IfErr result (IsCounted faults self.old self.new) };
 
-    /// Slabs of live plans, without the operator's own plan with this id. At each point of the extent, the
-    /// greatest priority among the slabs is the greatest that these plans hold there if it is at least
-    /// `least`, and none otherwise. Outside the extent, the slabs mean nothing.
+    /// Slabs that show what live plans hold in `extent`: those of all operators, but not the operator's own
+    /// plan with this id. At each point of the extent, the greatest priority of the slabs there is the
+    /// greatest that these plans hold there. If that is below `least`, no slab has the point. Outside the
+    /// extent the slabs mean nothing.
     fn rivals(
         &mut self,
         operator: &Operator,
@@ -106,9 +113,10 @@ pub trait PlanStore {
         ensures reads { OnlyReads content doubt faults may_leave is_shielded self.old self.new }
         ensures cause { IfErr result (IsCounted faults self.old self.new) };
 
-    /// Slabs of live plans, without the operator's own plan with this id. At each point of the extents, the
-    /// greatest priority among the slabs is the greatest that these plans hold there if it is at least
-    /// `least`, and none otherwise. Outside the extents, the slabs mean nothing.
+    /// As `rivals`, for several extents: slabs that show what live plans hold in them, without the operator's
+    /// own plan with this id. At each point of an extent, the greatest priority of the slabs there is the
+    /// greatest that these plans hold there. If that is below `least`, no slab has the point. Outside the
+    /// extents the slabs mean nothing.
     fn rivals_near(
         &mut self,
         operator: &Operator,
@@ -121,9 +129,9 @@ pub trait PlanStore {
         ensures reads { OnlyReads content doubt faults may_leave is_shielded self.old self.new }
         ensures cause { IfErr result (IsCounted faults self.old self.new) };
 
-    /// Slabs of the live plans of all other operators. At each point of the extents, the greatest priority
-    /// among the slabs is the greatest that these operators hold there. Outside the extents, the slabs mean
-    /// nothing.
+    /// Slabs that show what the live plans of all other operators hold in `extents`. At each point of an
+    /// extent, the greatest priority of the slabs there is the greatest that these operators hold there.
+    /// Outside the extents the slabs mean nothing.
     fn held_by_others(
         &mut self,
         operator: &Operator,
@@ -134,8 +142,10 @@ pub trait PlanStore {
         ensures reads { OnlyReads content doubt faults may_leave is_shielded self.old self.new }
         ensures cause { IfErr result (IsCounted faults self.old self.new) };
 
-    /// Makes the change, whole or not at all. The change has to fit the content if the storage is intact: for
-    /// example, the operator of a stored plan is enrolled.
+    /// Makes the change, whole or not at all; an error changes nothing. While the storage is intact the
+    /// change has to fit the content: the operator of a changed plan is enrolled, plans to close or to remove
+    /// are stored, no id to remove is named twice, an operator gets at most 200 plans, and no ceiling or
+    /// priority is above 1,000.
     // Long: callers cite each clause by itself.
     fn apply(&mut self, change: &Change) -> Result<(), StoreFault>
         requires { IsHonest (doubt self.old) → IsFitting change.now (content self.old) }

@@ -1,4 +1,5 @@
-//! The bodies of answers, as JSON. Each function fails only if memory runs out.
+//! The bodies of answers, as JSON. Each function fails only if memory runs out. The members of objects are in
+//! alphabetical order.
 ghost use Rattle.std.specs.Prelude.{◌≡◌, IfOk, codes};
 ghost use Rattle.serde_json.specs.{Data.object, Data.member, View.view};
 ghost use Rattle.desk_rules.specs.Outcome.{said_in};
@@ -25,7 +26,7 @@ pub fn reply_value(alloc: Global, reply: &Reply) -> Result<Value, AllocError>
     }
 }
 
-/// The JSON body of an error: `{"error":WORD}`.
+/// The JSON body of an error: `{"error":WORD}`, where `word` is the error code.
 pub fn error_value(alloc: Global, word: &str) -> Result<Value, AllocError>
     ensures { IfOk result (λ v. view v ≡ error_data word.now) }
 {
@@ -40,7 +41,7 @@ fn cleared_value(alloc: Global, count: u32) -> Result<Value, AllocError>
     json!(in alloc; {"outcome": {"message": message.as_str(), "success": true}})
 }
 
-// The body of the answer to a PUT or a DELETE, with its conflict if `put.meeting` is one.
+// The body of the answer to a PUT or a DELETE, with the member `conflict` if `put.meeting` is a point.
 fn put_value(alloc: Global, put: PutReply) -> Result<Value, AllocError>
     ensures { IfOk result (λ v. view v ≡ put_data put.status put.result put.note put.meeting) }
 {
@@ -53,7 +54,8 @@ fn put_value(alloc: Global, put: PutReply) -> Result<Value, AllocError>
     }
 }
 
-// The body of the answer to a PUT or a DELETE without a conflict; `outcome` is its `planning_result`.
+// The body of the answer to a PUT or a DELETE without a conflict. `outcome` is for the member
+// `planning_result`, `note` for `notes` (`None`: the empty text).
 fn outcome_value(
     alloc: Global,
     status: PlanStatus,
@@ -69,8 +71,8 @@ fn outcome_value(
     })
 }
 
-// The body of the answer to a PUT with a conflict; `conflict` is that as JSON, and `outcome` its
-// `planning_result`.
+// The body of the answer to a PUT with a conflict, which is `conflict` as JSON. `outcome` is for the member
+// `planning_result`, `note` for `notes` (`None`: the empty text).
 fn outcome_with_conflict_value(
     alloc: Global,
     status: PlanStatus,
@@ -89,8 +91,8 @@ fn outcome_with_conflict_value(
     })
 }
 
-/// The value of the JSON member `conflict`: a point, by its altitude in decimetres, its Unix second and the S2
-/// token of its leaf cell (`cell`), and the greatest priority that is held there.
+/// The value of the JSON member `conflict`: a point, by its altitude in decimetres, its Unix second and the
+/// S2 token of its leaf cell (`cell`), and the greatest priority that is held there.
 ///
 /// # Errors
 ///

@@ -1,4 +1,5 @@
-//! Answers as bytes: replies and errors as HTTP responses with JSON bodies.
+//! Answers as bytes: replies and errors as HTTP/1.1 responses with JSON bodies. A reply is the result of a
+//! call, before it is written; a note is the reason why a PUT was refused.
 #![tactic(auto)]
 
 mod json_out;

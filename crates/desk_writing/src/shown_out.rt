@@ -1,4 +1,5 @@
-//! Plans as JSON, as List and Show return them. Each function fails only if memory runs out.
+//! Plans as JSON, as List and Show return them. Each function fails only if memory runs out. The members of
+//! objects are in alphabetical order.
 
 ghost use Rattle.std.specs.Prelude.{◌≡◌, IfOk, codes};
 ghost use Rattle.serde_json.specs.{Data.object, Data.member, View.view};
@@ -24,7 +25,7 @@ pub fn plans_value(alloc: Global, plans: &[Shown]) -> Result<Value, AllocError>
     json!(in alloc; {"flight_plans": values})
 }
 
-/// The JSON of a plan, with its conflict if it has one.
+/// The JSON of a plan as it is shown, with the member `conflict` if it has a conflict.
 pub fn shown_value(alloc: Global, shown: &Shown) -> Result<Value, AllocError>
     ensures { IfOk result (λ v. view v ≡ shown_data shown.now) }
 {
@@ -37,7 +38,8 @@ pub fn shown_value(alloc: Global, shown: &Shown) -> Result<Value, AllocError>
     }
 }
 
-// A plan without a conflict; `area` is its area as JSON. `buffer` is for the id: a UUID in 36 characters.
+// The JSON of a plan without a conflict; `area` is the plan's area as JSON. In the body, `buffer` is for the
+// text of the plan's id, a UUID in 36 characters.
 fn plan_value(alloc: Global, shown: &Shown, area: Value) -> Result<Value, AllocError>
     ensures { IfOk result (λ v. view v
         ≡ object (member (codes "area") (view area) (row_members shown.now))) }
@@ -53,8 +55,8 @@ fn plan_value(alloc: Global, shown: &Shown, area: Value) -> Result<Value, AllocE
     })
 }
 
-// A plan with a conflict; `area` and `conflict` are its own as JSON. `buffer` is for the id: a UUID in 36
-// characters.
+// The JSON of a plan with a conflict; `area` is the plan's area as JSON, and `conflict` its conflict. In the
+// body, `buffer` is for the text of the plan's id, a UUID in 36 characters.
 fn plan_with_conflict_value(
     alloc: Global,
     shown: &Shown,
@@ -76,7 +78,7 @@ fn plan_with_conflict_value(
     })
 }
 
-// The volumes of `area` as JSON, in their order.
+// The volumes of `area` as a JSON array, in their order.
 fn area_value(alloc: Global, area: &Area) -> Result<Value, AllocError>
     ensures { IfOk result (λ v. view v ≡ area_data area.now) }
 {
@@ -87,7 +89,8 @@ fn area_value(alloc: Global, area: &Area) -> Result<Value, AllocError>
     Ok(Value::Array(values))
 }
 
-// A volume as JSON: its footprint as it was requested, its altitudes in decimetres, its Unix seconds.
+// A volume as JSON: its footprint as it was requested, its altitudes in decimetres, and its times as Unix
+// seconds.
 fn volume_value(alloc: Global, volume: &Volume) -> Result<Value, AllocError>
     ensures { IfOk result (λ v. view v ≡ volume_data volume.now) }
 {
@@ -101,7 +104,7 @@ fn volume_value(alloc: Global, volume: &Volume) -> Result<Value, AllocError>
     }
 }
 
-// The S2 tokens of `cells` as JSON, in their order.
+// The S2 tokens of `cells` as a JSON array, in their order.
 fn cells_value(alloc: Global, cells: &[CellId]) -> Result<Value, AllocError>
     ensures { IfOk result (λ v. view v ≡ cells_data cells.now) }
 {
@@ -112,7 +115,8 @@ fn cells_value(alloc: Global, cells: &[CellId]) -> Result<Value, AllocError>
     Ok(Value::Array(values))
 }
 
-// A volume over a list of cells: `window` has its altitudes and seconds, `cells` is the list as JSON.
+// The JSON of a volume over a list of cells: `window` has the volume's altitudes and seconds, and `cells` is
+// the list as JSON.
 fn cells_volume_value(alloc: Global, window: Window, cells: Value) -> Result<Value, AllocError>
     ensures { IfOk result (λ v. view v
         ≡ volume_with window (member (codes "cells") (view cells))) }
@@ -126,7 +130,7 @@ fn cells_volume_value(alloc: Global, window: Window, cells: Value) -> Result<Val
     })
 }
 
-// The rectangle `rect` as JSON, as it was requested.
+// The rectangle `rect` as JSON, as it was requested: its face, its coordinates, and the level of its squares.
 fn rectangle_value(alloc: Global, rect: &Rect) -> Result<Value, AllocError>
     ensures { IfOk result (λ v. view v ≡ rectangle_data rect.now) }
 {
@@ -140,7 +144,8 @@ fn rectangle_value(alloc: Global, rect: &Rect) -> Result<Value, AllocError>
     })
 }
 
-// A volume over a rectangle: `volume` has its altitudes and seconds, `rectangle` is that as JSON.
+// The JSON of a volume over a rectangle: `volume` has the altitudes and seconds, and `rectangle` is the
+// rectangle as JSON.
 fn rectangle_volume_value(
     alloc: Global,
     volume: &Volume,

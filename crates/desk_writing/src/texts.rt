@@ -10,7 +10,7 @@ use http::StatusCode;
 use serde_json::Value;
 use std::alloc::{AllocError, Global};
 
-/// The response for `reply`, with the status 200.
+/// The response for `reply`, with the status 200, also if a rule refused the request.
 ///
 /// # Errors
 ///
@@ -23,8 +23,8 @@ pub fn reply_answer(alloc: Global, reply: &Reply) -> Result<Vec<u8>, AllocError>
     json_answer(alloc, StatusCode::OK, None, &value)
 }
 
-/// The response with an error: its status code, and `word` as its error code. `allow` lists the resource's
-/// methods if the status is 405, and else is `None`.
+/// The response with an error: its status code, and `word` as the error code in its body. `allow` has the
+/// resource's methods if the status is 405, and else is `None`.
 ///
 /// # Errors
 ///
@@ -43,8 +43,8 @@ pub fn error_answer(
     json_answer(alloc, status, allow, &value)
 }
 
-/// The response if memory ran out. It is static, since nothing can be allocated then, and has at most 512
-/// bytes, as many as are reserved for it before a request is carried out.
+/// The response if memory ran out: status 500, error code `out_of_memory`. It is static, since nothing can be
+/// allocated then. It has at most 512 bytes, as many as are reserved for it before a request is carried out.
 pub fn out_of_memory_answer() -> &'static [u8]
     ensures value { result.now ≡ error_text 500 None (codes "out_of_memory") }
     ensures fits { length result.now ≤ 512 }
@@ -53,8 +53,8 @@ pub fn out_of_memory_answer() -> &'static [u8]
     content-length: 25\r\nconnection: close\r\n\r\n{\"error\":\"out_of_memory\"}"
 }
 
-/// The response if the store failed. It is static, so it can be sent even if memory is short, and has at most
-/// 512 bytes, as many as are reserved for it.
+/// The response if the store failed: status 500, error code `store`. It is static, so it can be sent even if
+/// memory is short. It has at most 512 bytes, as many as are reserved for it before a request is carried out.
 pub fn store_answer() -> &'static [u8]
     ensures value { result.now ≡ error_text 500 None (codes "store") }
     ensures fits { length result.now ≤ 512 }
@@ -80,7 +80,8 @@ fn json_answer(
     Ok(response_text(alloc, status, allow, body.as_str())?.into_bytes())
 }
 
-// The response with this status and this body, which its head calls JSON; `allow` is as in `error_answer`.
+// The response with this status and this body, which has to be JSON, since the head says so. `allow` is as in
+// `error_answer`.
 fn response_text(
     alloc: Global,
     status: StatusCode,
@@ -98,7 +99,8 @@ fn response_text(
     )
 }
 
-// The field line of `allow`, the methods that a resource has; the empty text if that is `None`.
+// The line of the field `allow`, with its CR LF, if `allow` has a resource's methods; the empty text if it is
+// `None`.
 fn allow_line(alloc: Global, allow: Option<&str>) -> Result<String, AllocError>
     ensures { IfOk result (λ s. string_bytes s ≡ allow_line (option_map (λ s. s.now) allow.entry)) }
 {

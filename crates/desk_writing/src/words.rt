@@ -5,7 +5,7 @@ ghost use Rattle.desk_writing.specs.ReplyText as words;
 
 use desk_rules::words::{Aircraft, Note, PlanResult, PlanStatus, Usage};
 
-/// The value of `flight_plan_status` in an answer.
+/// The value of `flight_plan_status` in an answer: the status of the plan.
 pub fn status_word(status: PlanStatus) -> &'static str
     ensures { result.now ≡ words.status_word status }
 {
@@ -18,7 +18,7 @@ pub fn status_word(status: PlanStatus) -> &'static str
     }
 }
 
-/// The value of `planning_result` in an answer.
+/// The value of `planning_result` in an answer: whether the request was carried out.
 pub fn result_word(outcome: PlanResult) -> &'static str
     ensures { result.now ≡ words.result_word outcome }
 {
@@ -29,7 +29,7 @@ pub fn result_word(outcome: PlanResult) -> &'static str
     }
 }
 
-// The word of `note`, which says why a PUT was rejected or not supported.
+// The word of `note`, which says why a PUT was refused. Clients read these words in the member `notes`.
 fn note_word(note: Note) -> &'static str
     ensures { result.now ≡ words.note_word note }
 {
@@ -48,14 +48,14 @@ fn note_word(note: Note) -> &'static str
     }
 }
 
-/// The value of `notes` in an answer: the note's word, or the empty text.
+/// The value of `notes` in an answer: the note's word, or the empty text if there is no note.
 pub fn notes_text(note: Option<Note>) -> &'static str
     ensures { result.now ≡ words.notes_text note }
 {
     note.map_or("", note_word)
 }
 
-/// The value of `usage_state` in an answer.
+/// The value of `usage_state` in an answer: whether the flight is planned, in use or closed.
 pub fn usage_word(usage: Usage) -> &'static str
     ensures { result.now ≡ words.usage_word usage }
 {
@@ -66,7 +66,7 @@ pub fn usage_word(usage: Usage) -> &'static str
     }
 }
 
-/// The value of `uas_state` in an answer.
+/// The value of `uas_state` in an answer: whether the aircraft keeps to its plan.
 pub fn aircraft_word(aircraft: Aircraft) -> &'static str
     ensures { result.now ≡ words.aircraft_word aircraft }
 {

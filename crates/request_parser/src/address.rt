@@ -19,11 +19,12 @@ pub struct Address<'t> {
     pub id: &'t str,
 }
 
-/// Reads the action, the operator and the plan id from `head`.
+/// Reads the action, the operator and the plan id from `head`. The id is not parsed yet.
 ///
 /// # Errors
 ///
-/// The first of `NoRoute`, `Method` and `BadOperator` that applies.
+/// The first that applies: `NoRoute` if no resource has the path, `Method` if the resource doesn't have the
+/// method, `BadOperator` if no operator is named.
 #[tactic(auto, unfolding(crate::specs::Requests::address_of))]
 pub fn read_address<'t>(head: &Head<'t>) -> Result<Address<'t>, WireFault>
     ensures { Gives address_shown result (address_of head.now) }
@@ -40,7 +41,8 @@ pub fn read_address<'t>(head: &Head<'t>) -> Result<Address<'t>, WireFault>
     })
 }
 
-// The operator that the field `x-operator` names. None unless it occurs once, with an operator's name.
+// The operator that the field `x-operator` names. `None` unless the field occurs once, with a valid name.
+// Whether the operator is enrolled is not known here.
 fn find_operator(head: &Head<'_>) -> Option<Operator>
     ensures { result ≡ operator_of (count_in (codes "x-operator") head.now.fields) }
 {

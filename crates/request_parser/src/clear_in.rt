@@ -15,8 +15,8 @@ use volume4d::Volume;
 ///
 /// # Errors
 ///
-/// `OutOfMemory`, or the first of `BadJson`, `BadMember`, `BadVolume` and `TooManyCells` that
-/// applies.
+/// `OutOfMemory` if memory runs out. Else the first that applies of `BadJson`, `BadMember`, `BadVolume` and
+/// `TooManyCells`.
 #[tactic(auto, unfolding(crate::specs::Requests::clear_in))]
 pub fn read_clear(alloc: Global, body: &[u8]) -> Result<Volume, ReadError>
     ensures { GivesIfRoom (λ volume. volume) result (spec.clear_in body.now) }
@@ -25,7 +25,8 @@ pub fn read_clear(alloc: Global, body: &[u8]) -> Result<Volume, ReadError>
     read_extent(alloc, &value)
 }
 
-// Reads the volume of a request to clear from `value`, the JSON of its body: the member `extent`, an object.
+// Reads the volume of a request to clear from `value`, the JSON of its body: the member `extent`. `BadMember`
+// if that is missing or not an object; else the fault of the volume.
 #[tactic(auto, unfolding(crate::specs::Requests::clear_of))]
 fn read_extent(alloc: Global, value: &Value) -> Result<Volume, ReadError>
     ensures { GivesIfRoom (λ volume. volume) result (spec.clear_of (view value.now)) }

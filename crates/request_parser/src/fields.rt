@@ -1,4 +1,5 @@
-//! Fields of a head: found by their names, in any case of letters, and read as numbers.
+//! Fields of a head: found by their names, in any case of letters, and read as numbers. A span, from
+//! `httparse`, says at which bytes of the head a part of it is.
 
 ghost use Rattle.std.specs.Prelude.{◌≡◌, length, map, All};
 ghost use Rattle.httparse.specs.Spans.{IsHeaderWithin, header_bytes};
@@ -20,8 +21,8 @@ pub enum Occurrence<'t> {
     More,
 }
 
-/// How often the field `name` occurs, in any case of letters, and its value if it occurs once. `headers` are
-/// the spans of the fields in `text`, a head.
+/// How often the field `name` occurs in the head `text`, and its value if it occurs once. Names are compared
+/// in any case of letters. `headers` are the spans of all fields in `text`.
 pub fn find_field<'t>(text: &'t [u8], headers: &[HeaderSpan], name: &[u8]) -> Occurrence<'t>
     requires { All (IsHeaderWithin (length text.now)) headers.now }
     ensures { count_shown result ≡ count_in name.now (map (header_bytes text.now) headers.now) }
@@ -38,7 +39,8 @@ pub fn find_field<'t>(text: &'t [u8], headers: &[HeaderSpan], name: &[u8]) -> Oc
     found
 }
 
-/// The number that `digits` write: 1 to `MAX_DIGITS` decimal digits. None for every other text.
+/// The number that `digits` write: 1 to 19 decimal digits, which may begin with zeros. `None` for every other
+/// text.
 pub fn read_decimal(digits: &[u8]) -> Option<u64>
     ensures { result ≡ decimal_of digits.now }
 {

@@ -1,4 +1,5 @@
-//! Request heads: RFC 9112, sections 2 to 5, as `httparse` reads them.
+//! Request heads: RFC 9112, sections 2 to 5, as `httparse` reads them. A span, from `httparse`, says at which
+//! bytes of the head a part of it is.
 
 ghost use Rattle.std.specs.Prelude.{◌≡◌, option_map};
 ghost use Rattle.httparse.specs.Spans.{IsRequestWithin};
@@ -31,21 +32,22 @@ impl<'t> Model for Head<'t> {
 }
 
 impl<'t> Head<'t> {
-    /// The method, as it was sent.
+    /// The method, as it was sent: `GET`, for example.
     pub fn method(&self) -> &'t [u8]
         ensures { result.now ≡ self.now.method }
     {
         self.spans.method.of(self.text)
     }
 
-    /// The request target, as it was sent.
+    /// The request target, as it was sent: the path, and the query if there is one.
     pub fn target(&self) -> &'t [u8]
         ensures { result.now ≡ self.now.target }
     {
         self.spans.path.of(self.text)
     }
 
-    /// How often the field `name` occurs, in any case of letters, with its value if it occurs once.
+    /// How often the field `name` occurs, and its value if it occurs once. Names are compared in any case of
+    /// letters.
     pub fn field(&self, name: &[u8]) -> Occurrence<'t>
         ensures { count_shown result ≡ count_in name.now self.now.fields }
     {
@@ -53,8 +55,8 @@ impl<'t> Head<'t> {
     }
 }
 
-/// Parses `text` as one whole head. None if it is malformed, incomplete, followed by other bytes, or has more
-/// than `MAX_FIELDS` fields.
+/// Parses `text` as one whole head. `None` if it is malformed, incomplete, followed by other bytes, or has
+/// more than 64 fields.
 pub fn read_head(text: &[u8]) -> Option<Head<'_>>
     ensures { result ≡ option_map head_parts (head_within field_room text.now) }
 {

@@ -1,4 +1,4 @@
-//! The members of JSON values, and bodies as JSON values.
+//! Bodies as JSON values, and the members of these.
 ghost use Rattle.std.specs.Prelude.{◌≡◌, option_map};
 ghost use Rattle.serde_json.specs.View.{view, items_view};
 ghost use Rattle.request_parser.specs.{Messages.GivesIfRoom, Requests.body_value};
@@ -20,21 +20,22 @@ pub fn read_json(alloc: Global, body: &[u8]) -> Result<Value, ReadError>
     }
 }
 
-/// The member `key` of `value`, if `value` is an object and the member a string.
+/// The member `key` of `value`, if `value` is an object and the member a string; else `None`.
 pub fn text_at<'a>(value: &'a Value, key: &str) -> Option<&'a str>
     ensures { option_map (λ s. s.now) result ≡ spec.text_at key.now (view value.now) }
 {
     value.get(key)?.as_str()
 }
 
-/// The member `key` of `value`, if `value` is an object and the member an integer that fits an `i64`.
+/// The member `key` of `value`, if `value` is an object and the member an integer that fits an `i64`; else
+/// `None`.
 pub fn integer_at(value: &Value, key: &str) -> Option<i64>
     ensures { result ≡ spec.integer_at key.now (view value.now) }
 {
     value.get(key)?.as_i64()
 }
 
-/// The member `key` of `value`, if `value` is an object that has it and it isn't null.
+/// The member `key` of `value`, if `value` is an object that has it and it isn't null; else `None`.
 pub fn non_null_at<'a>(value: &'a Value, key: &str) -> Option<&'a Value>
     ensures { option_map (λ v. view v.now) result ≡ spec.present key.now (view value.now) }
 {
@@ -42,7 +43,7 @@ pub fn non_null_at<'a>(value: &'a Value, key: &str) -> Option<&'a Value>
     if member.is_null() { None } else { Some(member) }
 }
 
-/// The member `key` of `value`, if `value` is an object and the member an array.
+/// The items of the member `key` of `value`, if `value` is an object and the member an array; else `None`.
 pub fn array_at<'a>(value: &'a Value, key: &str) -> Option<&'a [Value]>
     ensures { option_map (λ items. items_view items.now) result
         ≡ spec.array_at key.now (view value.now) }

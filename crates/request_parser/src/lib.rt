@@ -1,5 +1,10 @@
 //! The parser of requests: from the bytes of one whole request to the operator and its call, or the first
-//! fault.
+//! fault. A call is a request after it is read.
+//!
+//! A request is a head and a body (RFC 9112). The head has a method, a target (the path, and maybe a query)
+//! and fields, and ends with an empty line. The body is JSON, as InterUSS flight_planning v1 has it. A
+//! request is checked in this order, up to the first fault: framing, head, path, method, operator, plan id,
+//! body.
 #![tactic(auto)]
 
 mod address;

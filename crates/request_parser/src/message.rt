@@ -32,7 +32,8 @@ pub struct Front<'t> {
 ///
 /// # Errors
 ///
-/// The first fault of its framing: `HeadTooLarge`; `BadHead`; `TransferEncoding`; `ContentLength`;
+/// The first that applies: `HeadTooLarge` if no head ends in the first 16,384 bytes; `BadHead` if `text` is
+/// shorter and has no whole head, or if the head is malformed; `TransferEncoding`; `ContentLength`;
 /// `BodyTooLarge`; `BadHead` if the body is shorter or longer than the head says.
 #[tactic(auto, unfolding(crate::specs::Messages::message_in))]
 pub fn read_message(text: &[u8]) -> Result<Message<'_>, WireFault>
@@ -54,7 +55,8 @@ pub fn read_message(text: &[u8]) -> Result<Message<'_>, WireFault>
 ///
 /// # Errors
 ///
-/// The first of `BadHead`, `TransferEncoding`, `ContentLength` and `BodyTooLarge` that applies.
+/// The first that applies: `BadHead` if `text` is not one whole head; `TransferEncoding`; `ContentLength`;
+/// `BodyTooLarge`.
 #[tactic(auto, unfolding(crate::specs::Messages::front_in))]
 pub fn read_front(text: &[u8]) -> Result<Front<'_>, WireFault>
     ensures { Gives front_shown result (front_in text.now) }
@@ -64,8 +66,8 @@ pub fn read_front(text: &[u8]) -> Result<Front<'_>, WireFault>
     Ok(Front { head, size })
 }
 
-// The fault of `text`, in which no head ends: `HeadTooLarge` if it has `HEAD_ROOM` bytes or more, and else
-// `BadHead`, since the head is incomplete.
+// The fault of `text`, in whose first `HEAD_ROOM` bytes no head ends: `HeadTooLarge` if it has `HEAD_ROOM`
+// bytes or more, and else `BadHead`, since the head is incomplete.
 fn unended_fault(text: &[u8]) -> WireFault
     ensures { result ≡ unended text.now }
 {
@@ -76,8 +78,9 @@ fn unended_fault(text: &[u8]) -> WireFault
     }
 }
 
-// The length of the body that is to follow `head`, in bytes. The faults `TransferEncoding`,
-// `ContentLength` and `BodyTooLarge` are checked in this order.
+// The length of the body that is to follow `head`, in bytes; 0 if the head names none. Errors, in this order:
+// `TransferEncoding` if there is such a field, `ContentLength` if the length is repeated or malformed,
+// `BodyTooLarge` if it is above 131,072.
 #[tactic(auto, unfolding(crate::specs::Messages::body_len))]
 fn read_body_length(head: &Head<'_>) -> Result<u64, WireFault>
     ensures { result ≡ body_len head.now.fields }
@@ -92,8 +95,8 @@ fn read_body_length(head: &Head<'_>) -> Result<u64, WireFault>
     Ok(size)
 }
 
-// The value of the content-length field; 0 if there is no such field. None if it occurs more
-// than once or isn't 1 to 19 digits.
+// The value of the field content-length; 0 if there is no such field. `None` if it occurs more than once, or
+// isn't 1 to 19 digits.
 fn read_content_length(head: &Head<'_>) -> Option<u64>
     ensures { result ≡ length_of (count_in (codes "content-length") head.now.fields) }
 {

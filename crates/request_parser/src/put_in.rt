@@ -18,8 +18,9 @@ use std::alloc::Global;
 ///
 /// # Errors
 ///
-/// `OutOfMemory`, or the first of `BadJson`, `BadMember`, `BadVolume` and `TooManyCells` that
-/// applies.
+/// `OutOfMemory` if memory runs out. Else the first fault: `BadJson`, then `BadMember`, then `BadVolume` if
+/// there are not 1 to 32 volumes, then the fault of the first volume that has one (`BadVolume` or
+/// `TooManyCells`).
 #[tactic(auto, unfolding(crate::specs::Requests::put_in))]
 pub fn read_put(alloc: Global, id: PlanId, body: &[u8]) -> Result<PutCall, ReadError>
     ensures { GivesIfRoom (λ call. call) result (spec.put_in id body.now) }
@@ -29,7 +30,7 @@ pub fn read_put(alloc: Global, id: PlanId, body: &[u8]) -> Result<PutCall, ReadE
 }
 
 // Reads a PUT of the plan `id` from `value`, the JSON of its body. The order of the reads is that in which
-// faults are reported: those of the volumes come last.
+// faults are reported: first `BadMember`, and the faults of the volumes last.
 #[tactic(auto, unfolding(crate::specs::Requests::put_of))]
 fn read_members(alloc: Global, id: PlanId, value: &Value) -> Result<PutCall, ReadError>
     ensures { GivesIfRoom (λ call. call) result (spec.put_of id (view value.now)) }
@@ -59,7 +60,7 @@ fn read_members(alloc: Global, id: PlanId, value: &Value) -> Result<PutCall, Rea
 }
 
 // The priority of `plan`, a `flight_plan`: 0 if `astm_f3548_21`, or its `priority`, is missing or null.
-// `BadMember` if the first is not an object, or the second no priority.
+// `BadMember` if the first is not an object, or the second not an integer from 0 to 1,000.
 #[tactic(auto, unfolding(crate::specs::Requests::priority_of))]
 fn read_priority(plan: &Value) -> Result<u32, WireFault>
     ensures { result ≡ spec.priority_of (view plan.now) }
@@ -76,7 +77,7 @@ fn read_priority(plan: &Value) -> Result<u32, WireFault>
     }
 }
 
-// The priority that `value` is: an integer from 0 to `MAX_PRIORITY`. None for every other value.
+// The priority that `value` is: an integer from 0 to 1,000. `None` for every other value.
 fn read_priority_number(value: &Value) -> Option<u32>
     ensures { result ≡ option_and_then spec.priority_number (integer_in (view value.now)) }
 {
@@ -84,7 +85,7 @@ fn read_priority_number(value: &Value) -> Option<u32>
     (priority <= MAX_PRIORITY).then_some(priority)
 }
 
-// Parses the word of an execution style in InterUSS flight_planning v1. None for every other word.
+// The execution style that a word of InterUSS flight_planning v1 stands for; `None` for every other word.
 #[tactic(auto, unfolding(crate::specs::Requests::style_of))]
 fn parse_style(word: &str) -> Option<Style>
     ensures { result ≡ spec.style_of word.now }
@@ -97,7 +98,7 @@ fn parse_style(word: &str) -> Option<Style>
     }
 }
 
-// Parses the word of a usage state in InterUSS flight_planning v1. None for every other word.
+// The usage state that a word of InterUSS flight_planning v1 stands for; `None` for every other word.
 #[tactic(auto, unfolding(crate::specs::Requests::usage_of))]
 fn parse_usage(word: &str) -> Option<Usage>
     ensures { result ≡ spec.usage_of word.now }
@@ -110,7 +111,7 @@ fn parse_usage(word: &str) -> Option<Usage>
     }
 }
 
-// Parses the word of an aircraft state in InterUSS flight_planning v1. None for every other word.
+// The aircraft state that a word of InterUSS flight_planning v1 stands for; `None` for every other word.
 #[tactic(auto, unfolding(crate::specs::Requests::aircraft_of))]
 fn parse_aircraft(word: &str) -> Option<Aircraft>
     ensures { result ≡ spec.aircraft_of word.now }

@@ -17,8 +17,8 @@ use std::alloc::Global;
 ///
 /// # Errors
 ///
-/// `OutOfMemory` if memory runs out; else the fault of `read_message`, or if that has none, the first one of
-/// `parse_message`.
+/// `OutOfMemory` if memory runs out. Else the first fault: that of `read_message`, or if the message has
+/// none, that of `parse_message`.
 #[tactic(auto, unfolding(crate::specs::Requests::asked))]
 pub fn read_request(alloc: Global, text: &[u8]) -> Result<Asked, ReadError>
     ensures { GivesIfRoom (λ asked. asked) result (asked text.now) }
@@ -27,11 +27,12 @@ pub fn read_request(alloc: Global, text: &[u8]) -> Result<Asked, ReadError>
     parse_message(alloc, &message)
 }
 
-/// Parses `message`, a request that is split into head and body already.
+/// Parses `message`, a request that is split into head and body already: which operator makes which call.
 ///
 /// # Errors
 ///
-/// `OutOfMemory`, or the first fault: of path, method and operator, then of the plan id, then of the body.
+/// `OutOfMemory` if memory runs out. Else the first fault: of the path, then the method, the operator, the
+/// plan id, and the body.
 #[tactic(auto, unfolding(crate::specs::Requests::asked_by))]
 pub fn parse_message(alloc: Global, message: &Message<'_>) -> Result<Asked, ReadError>
     ensures { GivesIfRoom (λ asked. asked) result (asked_by (message_shown message.now)) }
@@ -42,7 +43,8 @@ pub fn parse_message(alloc: Global, message: &Message<'_>) -> Result<Asked, Read
     }
 }
 
-// The operator of `address`, and the call that its action is. Only a PUT and a clear read `body`.
+// The operator of `address`, and the call that its action is. The plan id is checked before the body. Only a
+// PUT and a clear read `body`; any other call ignores it.
 fn read_call(alloc: Global, address: &Address<'_>, body: &[u8]) -> Result<Asked, ReadError>
     ensures { GivesIfRoom (λ asked. asked) result (asked_at (address_shown address.now) body.now) }
 {

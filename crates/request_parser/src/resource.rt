@@ -1,4 +1,4 @@
-//! The resources of the interface, with their methods.
+//! The resources of the interface, by their paths, with their methods.
 
 ghost use Rattle.std.specs.Prelude.{◌≡◌};
 ghost use Rattle.request_parser.specs.Routes as spec;
@@ -34,7 +34,8 @@ pub enum Action {
 }
 
 impl Route {
-    /// The action of `method` at this resource. None if the resource has no such method.
+    /// The action of `method` at this resource; `None` if the resource has no such method. Methods are
+    /// case-sensitive.
     #[tactic(auto, unfolding(crate::specs::Routes::action_of))]
     pub fn action(self, method: &[u8]) -> Option<Action>
         ensures { result ≡ spec.action_of self method.now }
@@ -50,7 +51,8 @@ impl Route {
         }
     }
 
-    /// The methods of this resource, as the field `allow` lists them (RFC 9110, section 10.2.1).
+    /// The methods of this resource, as the field `allow` of an answer 405 lists them (RFC 9110, section
+    /// 10.2.1).
     pub fn allow(self) -> &'static str
         ensures { result.now ≡ spec.allow_text self }
     {

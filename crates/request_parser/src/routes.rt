@@ -17,8 +17,8 @@ pub struct Target<'t> {
     pub id: &'t str,
 }
 
-/// The resource and the plan id that `target`, a request target, names. None if there is no such resource, or
-/// the target isn't UTF-8.
+/// The resource and the plan id that `target`, a request target, names. `None` if there is no such resource,
+/// or the target isn't UTF-8. The id is not parsed yet.
 pub fn find_target(target: &[u8]) -> Option<Target<'_>>
     ensures { option_map target_shown result ≡ route_in target.now }
 {
@@ -28,14 +28,14 @@ pub fn find_target(target: &[u8]) -> Option<Target<'_>>
     }
 }
 
-// The path of a request target: all before its first `?`. The query is ignored.
+// The path of a request target: all before its first `?`, or all of it if it has none. The query is ignored.
 fn read_path(target: &str) -> &str
     ensures { result.now ≡ path_of target.now }
 {
     target.split_once('?').map_or(target, |(path, _query)| path)
 }
 
-// The resource at `path`, with its plan id. None if there is none.
+// The resource at `path`, with its plan id, not parsed yet; `None` if no resource has this path.
 #[tactic(auto, unfolding(crate::specs::Routes::route_of))]
 fn find_route(path: &str) -> Option<Target<'_>>
     ensures { option_map target_shown result ≡ route_of path.now }
@@ -58,7 +58,8 @@ fn target_without_id(route: Route) -> Target<'static>
     Target { route, id: "" }
 }
 
-// The id in the path of a flight plan, not parsed yet. None if `path` isn't that of a flight plan.
+// The id in the path of a flight plan, not parsed yet: one path segment. `None` if `path` isn't that of a
+// flight plan.
 #[tactic(auto, unfolding(crate::specs::Routes::plan_id_in))]
 fn find_plan_id(path: &str) -> Option<&str>
     ensures { option_map (λ id. id.now) result ≡ plan_id_in path.now }
@@ -67,7 +68,7 @@ fn find_plan_id(path: &str) -> Option<&str>
     if is_segment(id) { Some(id) } else { None }
 }
 
-// The rest of `path` after `PLANS_FOLDER`. None if `path` doesn't begin with that.
+// The rest of `path` after `/flight_plans/`; `None` if `path` doesn't begin with that.
 fn strip_plans_folder(path: &str) -> Option<&str>
     ensures { option_map (λ rest. rest.now) result ≡ rest_in path.now }
 {

@@ -1,4 +1,5 @@
-//! Times of RFC 3339, parsed to Unix seconds.
+//! Times of RFC 3339 (`YYYY-MM-DDTHH:MM:SS`, maybe a fraction, and an offset from UTC), parsed to Unix
+//! seconds. The library `jiff` knows the calendar.
 ghost use Rattle.std.specs.Prelude.{◌≡◌, ◌+◌, ◌≤◌, ◌<◌, ◌^◌, length, IsTrue, IfSome, is_some, option_and_then};
 ghost use Rattle.request_parser.specs.Times as spec;
 ghost use Rattle.request_parser.specs.Times.{IsInDigits, IsOffset, IsWritten, IsShownBy, is_civil, is_instant};
@@ -33,9 +34,9 @@ struct WrittenTime {
     offset: i32,
 }
 
-/// Parses the start of a volume to a Unix second; a fraction is rounded down. None if `text` isn't a
+/// Parses the start of a volume to a Unix second; a fraction is rounded down. `None` if `text` isn't a
 /// `date-time` of RFC 3339 of at most 64 bytes, or there is no such date or time, or it is after
-/// 9999-12-30T22:00:00Z, where `jiff` ends.
+/// 9999-12-30T22:00:00Z, the last that `jiff` has.
 #[tactic(auto, unfolding(crate::specs::Times::start_of))]
 pub fn parse_start(text: &[u8]) -> Option<i64>
     ensures { result ≡ spec.start_of text.now }
@@ -43,7 +44,8 @@ pub fn parse_start(text: &[u8]) -> Option<i64>
     unix_second(parse_time(text)?)
 }
 
-/// Parses the end of a volume to a Unix second, as `parse_start` does, but a fraction is rounded up.
+/// Parses the end of a volume to a Unix second, as `parse_start` does, but a fraction above zero is rounded
+/// up.
 #[tactic(auto, unfolding(crate::specs::Times::end_of))]
 pub fn parse_end(text: &[u8]) -> Option<i64>
     ensures { result ≡ spec.end_of text.now }
@@ -53,8 +55,8 @@ pub fn parse_end(text: &[u8]) -> Option<i64>
     Some(second + i64::from(time.has_fraction))
 }
 
-// Parses a `date-time` of RFC 3339 of at most `MAX_TIME_LEN` bytes. The date and the time are not checked
-// against the calendar yet. None for every other text.
+// Parses a `date-time` of RFC 3339 of at most `MAX_TIME_LEN` bytes; `None` for every other text. The date and
+// the time are not checked against the calendar yet: month 13 passes.
 #[tactic(auto, unfolding(crate::specs::Times::time_of))]
 fn parse_time(text: &[u8]) -> Option<WrittenTime>
     ensures parsed { result ≡ spec.time_of text.now }
@@ -68,8 +70,8 @@ fn parse_time(text: &[u8]) -> Option<WrittenTime>
     parse_time_rest(civil, rest)
 }
 
-// Parses `rest`, the fraction and the offset that follow `civil`, a date and a time of day. None for
-// every other text.
+// Parses `rest`, the fraction (if there is one) and the offset that follow `civil`, a date and a time of day.
+// `None` if `rest` is anything else.
 #[tactic(auto, unfolding(crate::specs::Times::time_with))]
 fn parse_time_rest(civil: CivilTime, rest: &[u8]) -> Option<WrittenTime>
     requires in_digits { IsInDigits civil }
@@ -86,7 +88,8 @@ fn parse_time_rest(civil: CivilTime, rest: &[u8]) -> Option<WrittenTime>
     })
 }
 
-// Whether the separators of `YYYY-MM-DDTHH:MM:SS` are at their places in `text`.
+// Whether the separators of `YYYY-MM-DDTHH:MM:SS` are at their places in `text`. The `T` may be in lower
+// case. The other bytes are not looked at.
 #[tactic(auto, unfolding(crate::specs::Times::has_marks))]
 fn has_marks(text: &[u8]) -> bool
     requires { 19 ≤ length text.now }
@@ -99,8 +102,8 @@ fn has_marks(text: &[u8]) -> bool
         && text[16] == b':'
 }
 
-// Parses the six numbers of `YYYY-MM-DDTHH:MM:SS`, with which `text` begins. None if a byte of them is not a
-// digit. The separators are not looked at.
+// Parses the six numbers of `YYYY-MM-DDTHH:MM:SS`, with which `text` begins. `None` if a byte of them is not
+// a digit. The separators are not looked at, and the numbers not compared with the calendar.
 #[tactic(auto, unfolding(crate::specs::Times::civil_of))]
 fn parse_civil(text: &[u8]) -> Option<CivilTime>
     requires { 19 ≤ length text.now }
@@ -117,7 +120,8 @@ fn parse_civil(text: &[u8]) -> Option<CivilTime>
     })
 }
 
-// The number that `digits`, up to four decimal digits, write. None if another byte is among them.
+// The number that `digits`, up to four decimal digits, write; 0 if there are none. `None` if another byte is
+// among them.
 #[tactic(auto, unfolding(crate::specs::Times::number_written))]
 fn parse_number(digits: &[u8]) -> Option<u16>
     requires { length digits.now ≤ 4 }
@@ -134,8 +138,8 @@ fn parse_number(digits: &[u8]) -> Option<u16>
     Some(number)
 }
 
-// The length of the fraction that `text` begins with, its point included; 0 if there is no point. None if no
-// digit follows the point.
+// The length in bytes of the fraction that `text` begins with, its point included; 0 if `text` doesn't begin
+// with a point. `None` if no digit follows the point.
 #[tactic(auto, unfolding(crate::specs::Times::secfrac_len))]
 fn fraction_len(text: &[u8]) -> Option<usize>
     requires { 0 < length text.now }
@@ -159,14 +163,15 @@ fn count_leading_digits(text: &[u8]) -> usize
     text.iter().take_while(|byte| byte.is_ascii_digit()).count()
 }
 
-// Whether the fraction `secfrac` is greater than zero.
+// Whether the fraction `secfrac`, a point and digits, is greater than zero; false if it is empty.
 fn is_above_zero(secfrac: &[u8]) -> bool
     ensures { result ≡ spec.is_above_zero secfrac.now }
 {
     secfrac.iter().any(|byte| b'1' <= *byte && *byte <= b'9')
 }
 
-// Parses an offset from UTC, `Z`, `+HH:MM` or `-HH:MM`, to seconds. None for every other text.
+// Parses an offset from UTC, `Z` (in either case), `+HH:MM` or `-HH:MM`, to seconds. `None` for every other
+// text, and for an hour above 23 or a minute above 59.
 #[tactic(auto, unfolding(crate::specs::Times::offset_of, crate::specs::Times::numoffset_of))]
 fn parse_offset(text: &[u8]) -> Option<i32>
     ensures parsed { result ≡ spec.offset_of text.now }
@@ -183,7 +188,7 @@ fn parse_offset(text: &[u8]) -> Option<i32>
     offset_seconds(text[0] == b'-', hour, minute)
 }
 
-// Whether `text` is as long as a numeric offset, with a sign and a colon at their places.
+// Whether `text` is as long as a numeric offset (`+HH:MM`), with a sign and a colon at their places.
 #[tactic(auto, unfolding(crate::specs::Times::has_offset_marks))]
 fn has_offset_marks(text: &[u8]) -> bool
     ensures marks { result ≡ spec.has_offset_marks text.now }
@@ -192,8 +197,8 @@ fn has_offset_marks(text: &[u8]) -> bool
     text.len() == 6 && (text[0] == b'+' || text[0] == b'-') && text[3] == b':'
 }
 
-// The offset of `hour` and `minute`, in seconds; negative if local time is behind UTC (`is_behind`). None if
-// the hour is above 23 or the minute above 59.
+// The offset of `hour` and `minute`, in seconds; negative if local time is behind UTC (`is_behind`). `None`
+// if the hour is above 23 or the minute above 59.
 fn offset_seconds(is_behind: bool, hour: u16, minute: u16) -> Option<i32>
     ensures seconds { result ≡ spec.offset_by is_behind hour minute }
     ensures range { IfSome result IsOffset }
@@ -205,7 +210,8 @@ fn offset_seconds(is_behind: bool, hour: u16, minute: u16) -> Option<i32>
     Some(if is_behind { -seconds } else { seconds })
 }
 
-// The Unix second in which `time` lies. None if there is no such date or time, or `jiff` has no such instant.
+// The Unix second in which `time` lies; its fraction is ignored. `None` if there is no such date or time, or
+// `jiff` has no such instant.
 #[tactic(auto, unfolding(crate::specs::Times::second_of))]
 fn unix_second(time: WrittenTime) -> Option<i64>
     requires { IsWritten time }
@@ -218,8 +224,8 @@ fn unix_second(time: WrittenTime) -> Option<i64>
     Some(instant.as_second())
 }
 
-// The date and time as `jiff` has them. None if they do not exist: month 13, February 30, hour 24, second 60.
-// The casts lose nothing, since the year has four digits and every other number two.
+// The date and time as `jiff` has them. `None` if they do not exist: month 13, February 30, hour 24, second
+// 60. The casts lose nothing, since the year has four digits and every other number two.
 fn to_date_time(civil: CivilTime) -> Option<DateTime>
     requires { IsInDigits civil }
     ensures exists { is_some result ≡ is_civil civil }

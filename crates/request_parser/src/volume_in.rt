@@ -1,4 +1,5 @@
-//! The volumes of requests, from their JSON.
+//! The volumes of requests, from their JSON. A volume is ground (S2 cells by their tokens, or a rectangle on
+//! a face of S2's cube) with altitudes and times.
 ghost use Rattle.std.specs.Prelude.{◌≡◌, option_map};
 ghost use Rattle.std.specs.{Int.is_in_range, Result.result_ok};
 ghost use Rattle.s2_cover.specs.Covers.{rect_or_fault};
@@ -16,11 +17,12 @@ use serde_json::Value;
 use std::alloc::Global;
 use volume4d::{Area, Footprint, MAX_VOLUMES, Volume, VolumeFault, Window};
 
-/// Reads the area of a plan from `items`, its 1 to `MAX_VOLUMES` volumes as JSON.
+/// Reads the area of a plan from `items`, its 1 to 32 volumes as JSON.
 ///
 /// # Errors
 ///
-/// `OutOfMemory`; `BadVolume` if there are too few or too many; else the first fault of a volume.
+/// `OutOfMemory` if memory runs out. Else `BadVolume` if there are too few or too many volumes; else the
+/// fault of the first volume that has one.
 pub fn read_area(alloc: Global, items: &[Value]) -> Result<Area, ReadError>
     ensures { GivesIfRoom (λ area. area) result (spec.area_of (items_view items.now)) }
 {
@@ -31,14 +33,14 @@ pub fn read_area(alloc: Global, items: &[Value]) -> Result<Area, ReadError>
     Area::try_new(volumes).ok_or(ReadError::Fault(WireFault::BadVolume))
 }
 
-// Whether an area may have `count` volumes.
+// Whether an area may have `count` volumes: 1 to 32.
 fn is_volume_count(count: usize) -> bool
     ensures { result ≡ is_in_range 1 max_volumes count }
 {
     (1..=MAX_VOLUMES).contains(&count)
 }
 
-// Reads a volume from each of `items`, in their order, up to the first fault.
+// Reads a volume from each of `items`, in their order. The error is that of the first volume that has one.
 fn read_volumes(alloc: Global, items: &[Value]) -> Result<Vec<Volume>, ReadError>
     ensures { GivesIfRoom (λ v. v.items) result (each spec.volume_of (items_view items.now)) }
 {
@@ -53,7 +55,8 @@ fn read_volumes(alloc: Global, items: &[Value]) -> Result<Vec<Volume>, ReadError
 ///
 /// # Errors
 ///
-/// `OutOfMemory`, or the first of `BadVolume` and `TooManyCells` that applies.
+/// `OutOfMemory` if memory runs out. Else `BadVolume` if the volume is malformed or out of its limits; else
+/// `TooManyCells` if the cover of its rectangle has more than 1,024 cells.
 #[tactic(auto, unfolding(crate::specs::Requests::volume_of))]
 pub fn read_volume(alloc: Global, value: &Value) -> Result<Volume, ReadError>
     ensures { GivesIfRoom (λ volume. volume) result (spec.volume_of (view value.now)) }
@@ -64,8 +67,8 @@ pub fn read_volume(alloc: Global, value: &Value) -> Result<Volume, ReadError>
     make_volume(alloc, footprint, window)
 }
 
-// Makes a volume of a footprint and a window. `BadVolume` if a cell list does not have 1 to 64 cells;
-// `TooManyCells` if the cover of a rectangle has more than 1,024.
+// Makes a volume of a footprint and a window. `BadVolume` if a cell list does not have 1 to 64 cells,
+// `TooManyCells` if the cover of a rectangle has more than 1,024, `OutOfMemory` if memory runs out.
 #[tactic(auto, unfolding(crate::specs::Requests::volume_over))]
 fn make_volume(alloc: Global, footprint: Footprint, window: Window) -> Result<Volume, ReadError>
     ensures { GivesIfRoom (λ volume. volume) result (spec.volume_over (shape_of footprint) window) }
@@ -78,8 +81,9 @@ fn make_volume(alloc: Global, footprint: Footprint, window: Window) -> Result<Vo
     }
 }
 
-// Reads the footprint from `shape`, the `volume` of a volume: either its `cells` or its `rectangle`, of which
-// the other one is missing or null. `BadVolume` if both or neither are there.
+// Reads the footprint from `shape`, the member `volume` of a volume: its `cells` or its `rectangle`.
+// `BadVolume` unless just one of them is there and not null, and is well-formed. How many cells there are is
+// not checked.
 #[tactic(auto, unfolding(crate::specs::Requests::footprint_of))]
 fn read_footprint(alloc: Global, shape: &Value) -> Result<Footprint, ReadError>
     ensures { GivesIfRoom shape_of result (spec.footprint_of (view shape.now)) }
@@ -91,7 +95,8 @@ fn read_footprint(alloc: Global, shape: &Value) -> Result<Footprint, ReadError>
     }
 }
 
-// Reads `list`, the value of `cells`: an array of S2 tokens.
+// Reads `list`, the value of `cells`: an array of S2 tokens, maybe empty. `BadVolume` if it is not an array,
+// or one of them is not a token.
 #[tactic(auto, unfolding(crate::specs::Requests::cells_of))]
 fn read_cells(alloc: Global, list: &Value) -> Result<Vec<CellId>, ReadError>
     ensures { GivesIfRoom (λ v. v.items) result (spec.cells_of (view list.now)) }
@@ -100,7 +105,8 @@ fn read_cells(alloc: Global, list: &Value) -> Result<Vec<CellId>, ReadError>
     read_tokens(alloc, items)
 }
 
-// Reads `value`, the value of `rectangle`: a rectangle of the S2 grid.
+// Reads `value`, the value of `rectangle`: the leaves of a face by their least and greatest coordinates.
+// `BadVolume` if a number is missing, or the numbers are not those of a rectangle.
 #[tactic(auto, unfolding(crate::specs::Requests::rectangle_of))]
 fn read_rectangle(value: &Value) -> Result<Rect, WireFault>
     ensures { result ≡ spec.rectangle_of (view value.now) }
@@ -114,8 +120,9 @@ fn read_rectangle(value: &Value) -> Result<Rect, WireFault>
     checked_rect(face, i_min, i_max, j_min, j_max, level).ok_or(WireFault::BadVolume)
 }
 
-// The rectangle of the leaves of `face` from `i_min` to `i_max` and from `j_min` to `j_max`, with squares of
-// `level`. None if a part is out of range, or a minimum is above its maximum.
+// The rectangle of the leaves of `face` (0 to 5) from `i_min` to `i_max` and from `j_min` to `j_max`, all
+// included (0 to `2^30 - 1`), with squares of `level` (8 to 24). `None` if a number is out of range, or a
+// minimum is above its maximum.
 fn checked_rect(
     face: u64,
     i_min: u64,
@@ -142,14 +149,15 @@ fn checked_rect(
     Rect::try_new(face, i_min, i_max, j_min, j_max, level).ok()
 }
 
-// The member `key` of an object, if it is an integer that isn't negative.
+// The member `key` of `value`, if that is an object and the member an integer from 0 to `i64::MAX`; else
+// `None`.
 fn natural_at(value: &Value, key: &str) -> Option<u64>
     ensures { result ≡ spec.natural_at key.now (view value.now) }
 {
     u64::try_from(integer_at(value, key)?).ok()
 }
 
-// Reads a cell from each of `items`, S2 tokens, in their order, up to the first fault.
+// Reads a cell from each of `items`, S2 tokens, in their order. `BadVolume` if one of them is not a token.
 fn read_tokens(alloc: Global, items: &[Value]) -> Result<Vec<CellId>, ReadError>
     ensures { GivesIfRoom (λ v. v.items) result (each spec.token_of (items_view items.now)) }
 {
@@ -160,7 +168,7 @@ fn read_tokens(alloc: Global, items: &[Value]) -> Result<Vec<CellId>, ReadError>
     Ok(cells)
 }
 
-// Reads a cell from `value`, its S2 token. `BadVolume` for every other value.
+// Reads a cell from `value`, its S2 token as a JSON string. `BadVolume` for every other value.
 fn read_cell(value: &Value) -> Result<CellId, WireFault>
     ensures { result ≡ spec.token_of (view value.now) }
 {
@@ -168,7 +176,8 @@ fn read_cell(value: &Value) -> Result<CellId, WireFault>
     CellId::from_token(text.as_bytes()).map_err(|_| WireFault::BadVolume)
 }
 
-// Reads the altitudes of a volume from `shape`, its member `volume`, and its times from `value`, the volume.
+// Reads the altitudes of a volume from `shape`, its member `volume`, and its times from `value`, the volume
+// itself. `BadVolume` if one of them is missing, malformed or out of its limits.
 #[tactic(auto, unfolding(crate::specs::Requests::window_of))]
 fn read_window(value: &Value, shape: &Value) -> Result<Window, WireFault>
     ensures { result ≡ spec.window_of (view value.now) (view shape.now) }
@@ -180,8 +189,8 @@ fn read_window(value: &Value, shape: &Value) -> Result<Window, WireFault>
     checked_window(lower, upper, start, end).ok_or(WireFault::BadVolume)
 }
 
-// The window with these altitudes, in decimetres, and these Unix seconds. None if it is empty or too long, or
-// one of them is out of range.
+// The window of the altitudes `lower <= a < upper`, in decimetres, and the Unix seconds `start <= t < end`.
+// `None` if it is empty or too long, or one of the numbers is out of range.
 fn checked_window(lower: i64, upper: i64, start: i64, end: i64) -> Option<Window>
     ensures { result ≡ result_ok
         (window_or_fault (record { lower = lower; upper = upper; start = start; end = end })) }
@@ -191,22 +200,23 @@ fn checked_window(lower: i64, upper: i64, start: i64, end: i64) -> Option<Window
     Window::try_new(lower, upper, start, end).ok()
 }
 
-// The `time_start` of `value`, a volume, rounded down to a Unix second. None if it is missing or malformed.
+// The `time_start` of `value`, a volume, rounded down to a Unix second. `None` if it is missing or malformed.
 fn read_start(value: &Value) -> Option<i64>
     ensures { result ≡ spec.start_at (view value.now) }
 {
     parse_start(time_at(value, "time_start")?.as_bytes())
 }
 
-// The `time_end` of `value`, a volume, rounded up to a Unix second. None if it is missing or malformed.
+// The `time_end` of `value`, a volume, rounded up to a Unix second. `None` if it is missing or malformed.
 fn read_end(value: &Value) -> Option<i64>
     ensures { result ≡ spec.end_at (view value.now) }
 {
     parse_end(time_at(value, "time_end")?.as_bytes())
 }
 
-// The text of the time that is the member `key` of `value`, an object: its own member `value`, if its `format`
-// is `RFC3339`. None if it is missing or malformed. The text is not parsed.
+// The text of the time that is the member `key` of `value`, an object: the time's own member `value`, if its
+// `format` is `RFC3339`. `None` if the time, or one of its members, is missing or malformed. The text is not
+// parsed.
 #[tactic(auto, unfolding(crate::specs::Requests::time_text))]
 fn time_at<'a>(value: &'a Value, key: &str) -> Option<&'a str>
     ensures { option_map (λ s. s.now) result ≡ spec.time_at key.now (view value.now) }

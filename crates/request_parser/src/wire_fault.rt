@@ -82,7 +82,8 @@ impl WireFault {
         }
     }
 
-    /// The methods that the field `allow` lists, if the status is 405 (RFC 9110, section 15.5.6); else None.
+    /// The methods of the resource, for the field `allow` of the answer, if the fault is `Method` (status
+    /// 405; RFC 9110, section 15.5.6); else `None`.
     pub fn allow(self) -> Option<&'static str>
         ensures { option_map (λ s. s.now) result ≡ spec.fault_allow self }
     {
@@ -166,7 +167,7 @@ impl<T: Drop> From<AllocFailed<T>> for ReadError {
 impl From<WireFault> for ReadError {
     ghost from_gives = { λ fault e. e ≡ Fault fault };
 
-    // The request has this fault.
+    // A fault of the request, as the error of reading it.
     fn from(fault: WireFault) -> ReadError {
         ReadError::Fault(fault)
     }

@@ -1,4 +1,4 @@
-//! The cells of leaves and squares, and the cells above and below a cell.
+//! The cells of leaves and squares, and the cells above and below a cell (its parents and children).
 
 ghost use Rattle.std.specs.Prelude.{◌≡◌, ◌↔◌, ◌+◌, ◌-◌, ◌/◌, ◌<◌, ◌≤◌, IsTrue};
 ghost use Rattle.s2_hilbert.specs.{Grid.GridLeaf, Grid.IsLeaf, Grid.LiesInSquare, Grid.ShareSquare, Grid.leaf_level, Curve.position_of, Curve.leaf_count};
@@ -32,7 +32,8 @@ impl CellId {
         CellId { id }
     }
 
-    /// The cell of `level` that contains this one; at this cell's own level, this cell itself.
+    /// The cell of `level`, at most this cell's own, that contains this one. At this cell's own level it is
+    /// this cell itself.
     pub fn parent(&self, level: u8) -> CellId
         requires { level ≤ level_of self.now }
         ensures value { result ≡ parent_id level self.now }
@@ -50,7 +51,8 @@ impl CellId {
         CellId { id }
     }
 
-    /// The quarter of this cell that the curve visits at place `k`, 0 to 3. It is one level down.
+    /// The quarter of this cell that the curve visits at place `k`, 0 to 3. It is one level down, so this
+    /// cell must not be a leaf.
     pub fn child(&self, k: u8) -> CellId
         requires k { k < 4 }
         requires level { level_of self.now < 30 }
@@ -80,7 +82,8 @@ static LOWEST_BITS: [u64; 31] = powers![
     28 26 24 22 20 18 16 14 12 10 8 6 4 2 0
 ];
 
-// The lowest set bit of an id of `level` (S2's `lsb_for_level`).
+// The lowest set bit of an id of `level` (S2's `lsb_for_level`), as a number. It is also how many leaves such
+// a cell has.
 fn lowest_bit_for(level: u8) -> u64
     requires { level ≤ leaf_level }
     ensures { result ≡ leaf_count level }

@@ -1,5 +1,9 @@
-//! Cells of the S2 geometry library (class S2CellId): their 64-bit ids, the leaves that they have,
-//! and their tokens.
+//! Cells of the S2 geometry library (class S2CellId): their 64-bit ids, the leaves that they have, and their
+//! tokens. S2 projects the earth onto the six faces of a cube. A face is a cell of level 0, a cell has four
+//! children one level down, and a leaf is a cell of level 30.
+//!
+//! An id has, from its highest bit down: three bits for the face, two bits for each level below it (which of
+//! the four children, in the order of S2's curve), one bit 1, and zeros.
 #![tactic(auto)]
 
 ghost use Rattle.std.specs.Prelude.{◌≡◌, ◌↔◌, ◌≤◌, ◌<◌, ◌+◌, ◌*◌, ◌^◌, ℕ, IsTrue};
@@ -17,7 +21,8 @@ pub use tokens::{Token, TokenFault};
 // The place in an id of the lowest of the three bits of the face.
 const FACE_PLACE: u32 = 61;
 
-// Proves that the constant is that of the definition: two bits for each level and one more.
+// Does nothing. Its contract proves that the constant is that of the definition: two bits for each level and
+// one more.
 fn has_the_limit()
     ensures { FACE_PLACE ≡ 2 * leaf_level + 1 }
 {}
@@ -42,7 +47,8 @@ impl Model for CellId {
 }
 
 impl CellId {
-    /// The cell with this id; `None` if the id is not valid (S2's `is_valid`).
+    /// The cell with this id, or `None` if the id is not valid (S2's `is_valid`). An id is valid if its face
+    /// is 0 to 5 and its lowest set bit is at an even place, 0 to 60.
     pub fn from_raw(id: u64) -> Option<CellId>
         ensures { SomeIff result (IsCellId id) id }
     {
@@ -85,9 +91,9 @@ impl CellId {
         LEAF_LEVEL - (self.id.trailing_zeros() / 2) as u8
     }
 
-    /// The position of the cell's first leaf among all leaves, counted from 0 in the order of
-    /// their ids. The id of the leaf at a position is `2 * position + 1`; the id of the cell's first
-    /// leaf is S2's `range_min`.
+    /// The position of the cell's first leaf: its number among all leaves, counted from 0 in the order of
+    /// their ids. The id of the leaf at a position is `2 * position + 1`. The id of the cell's first leaf is
+    /// S2's `range_min`.
     pub fn first(&self) -> u64
         ensures value { result ≡ first_leaf self.now }
         ensures leaf { leaf_id_at result ≡ first_leaf_id self.now }
@@ -98,7 +104,7 @@ impl CellId {
         self.first_leaf_id() / 2
     }
 
-    /// The position of the cell's last leaf, counted as for `first`. Its id is S2's `range_max`.
+    /// The position of the cell's last leaf, counted as for `first`. The id of that leaf is S2's `range_max`.
     pub fn last(&self) -> u64
         ensures value { result ≡ last_leaf self.now }
         ensures leaf { leaf_id_at result ≡ last_leaf_id self.now }
@@ -110,7 +116,8 @@ impl CellId {
         self.last_leaf_id() / 2
     }
 
-    /// Whether each leaf of the other cell is a leaf of this one; a cell contains itself.
+    /// Whether each leaf of the other cell is a leaf of this one; a cell contains itself. This is so exactly
+    /// if the other cell's id is in the range of the ids of this cell's leaves.
     pub fn contains(&self, other: &CellId) -> bool
         ensures range { IsTrue result
             ↔ IsInRange (first_leaf_id self.now) (last_leaf_id self.now) other.now }
@@ -122,7 +129,7 @@ impl CellId {
         self.first_leaf_id() <= other.id && other.id <= self.last_leaf_id()
     }
 
-    /// Whether some leaf belongs to both cells.
+    /// Whether some leaf belongs to both cells: whether the ranges of their leaves' ids overlap.
     pub fn intersects(&self, other: &CellId) -> bool
         ensures positions { IsTrue result
             ↔ ((p : ℕ) × (IsTrue (cell_has self.now p) × IsTrue (cell_has other.now p))) }
@@ -132,14 +139,15 @@ impl CellId {
         self.first_leaf_id() <= other.last_leaf_id() && other.first_leaf_id() <= self.last_leaf_id()
     }
 
-    // The lowest set bit of the id (S2's `lsb`).
+    // The lowest set bit of the id (S2's `lsb`), as a number: `2^place`.
     fn lowest_bit(&self) -> u64
         ensures { result ≡ lowest_bit self.now }
     {
         1 << self.id.trailing_zeros()
     }
 
-    // The least id of the cell's leaves (S2's `range_min`).
+    // The least id of the cell's leaves (S2's `range_min`). The ids of these go from `lowest_bit - 1` below
+    // the cell's own to as much above.
     #[tactic(auto, using(crate::proofs::lemmas::Block::ends_of))]
     fn first_leaf_id(&self) -> u64
         ensures value { result ≡ first_leaf_id self.now }
@@ -148,7 +156,8 @@ impl CellId {
         self.id - (self.lowest_bit() - 1)
     }
 
-    // The greatest id of the cell's leaves (S2's `range_max`).
+    // The greatest id of the cell's leaves (S2's `range_max`): as much above the cell's own id as the least
+    // is below.
     #[tactic(auto, using(crate::proofs::lemmas::Block::ends_of))]
     fn last_leaf_id(&self) -> u64
         ensures value { result ≡ last_leaf_id self.now }

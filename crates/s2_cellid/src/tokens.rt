@@ -1,4 +1,5 @@
-//! Tokens: the texts of cell ids (S2's `ToToken` and `FromToken`).
+//! Tokens: the texts of cell ids (S2's `ToToken` and `FromToken`). A token is the id in base 16 without the
+//! zeros at its end.
 
 ghost use Rattle.std.specs.Prelude.{◌≡◌, ◌-◌, ◌<◌, ◌≤◌, ◌↔◌, ℕ, length, IsTrue, List, Ok, Some};
 ghost use Rattle.std.specs.{Char.digit_char, Char.digit_value, List.suffix_len, Option.SomeIff};
@@ -12,7 +13,7 @@ use std::{fmt, str};
 // How many hex digits an id has.
 const DIGITS: usize = 16;
 
-// Proves that the constant is that of the definition.
+// Does nothing. Its contract proves that the constant is that of the definition in `specs/`.
 fn has_the_limit()
     ensures { DIGITS ≡ id_digits }
 {}
@@ -53,6 +54,7 @@ impl fmt::Display for TokenFault {
 
     ghost output = { λ fault. Some (token_fault_text fault) };
 
+    // The fault as a sentence, in lower case and without a full stop.
     fn fmt<W: fmt::Write>(&self, f: &mut fmt::Formatter<W>) -> fmt::Result {
         f.pad(match self {
             TokenFault::Empty => "the token is empty",
@@ -92,7 +94,7 @@ impl Model for Token {
 }
 
 impl Token {
-    /// The token's text.
+    /// The token as text: 1 to 16 hex digits, lower-case.
     pub fn as_str(&self) -> &str
         ensures { result.now ≡ self.now }
     {
@@ -104,6 +106,7 @@ impl Token {
 impl fmt::Display for Token {
     ghost output = { λ token. Some token };
 
+    // The token, as `as_str` returns it.
     fn fmt<W: fmt::Write>(&self, f: &mut fmt::Formatter<W>) -> fmt::Result {
         f.pad(self.as_str())
     }
@@ -112,6 +115,7 @@ impl fmt::Display for Token {
 impl fmt::Display for CellId {
     ghost output = { λ id. Some (token_text id) };
 
+    // The cell's token.
     fn fmt<W: fmt::Write>(&self, f: &mut fmt::Formatter<W>) -> fmt::Result {
         f.pad(self.token().as_str())
     }
@@ -166,7 +170,7 @@ fn hex_digits(id: u64) -> [u8; DIGITS]
     digits
 }
 
-// The ASCII byte of a hex digit, lower-case.
+// The ASCII byte of a hex digit, lower-case, by its value, 0 to 15.
 fn hex_digit(value: u64) -> u8
     requires { value < 16 }
     ensures { result ≡ digit_char value }
@@ -178,7 +182,8 @@ fn hex_digit(value: u64) -> u8
     }
 }
 
-// The number of hex digits of an id without its trailing zeros. A valid id is never 0, so it is 1 to 16.
+// How many of an id's 16 hex digits are left without the zeros at its end: 1 to 16, since a valid id is never
+// 0.
 fn printed_length(id: u64) -> usize
     requires { IsCellId id }
     ensures { result ≡ length (hex_digits id_digits id)
@@ -187,7 +192,7 @@ fn printed_length(id: u64) -> usize
     DIGITS - (id.trailing_zeros() / 4) as usize
 }
 
-// The value of a hex digit of either case; `None` if the byte is no hex digit.
+// The value, 0 to 15, of a hex digit of either case; `None` if the byte is no hex digit.
 fn hex_value(byte: u8) -> Option<u8>
     ensures { SomeIff result (digit_value byte < 16) (digit_value byte) }
 {
@@ -195,8 +200,8 @@ fn hex_value(byte: u8) -> Option<u8>
     if value < NO { Some(value) } else { None }
 }
 
-// The number that the 1 to 16 hex digits of `token` write, padded with zeros on the right to 16 digits;
-// `None` if a byte is no hex digit.
+// The number whose 16 hex digits are the 1 to 16 bytes of `token`, and zeros after these. `None` if a byte of
+// `token` is no hex digit.
 fn zero_padded_value(token: &[u8]) -> Option<u64>
     requires some { 0 < length token.now }
     requires at_most { length token.now ≤ id_digits }

@@ -1,4 +1,5 @@
-//! Canonical covers.
+//! Canonical covers: lists of cells, ascending by their ids, in which no cell lies inside another, and no
+//! four are the children of one.
 
 ghost use Rattle.std.specs.Prelude.{◌≡◌, ◌≢◌, ℕ, ◌+◌, ◌*◌, ◌^◌, ◌<◌, ◌≤◌, Bool, [], length, IfOk, OnOk, IfSome, IfNone};
 ghost use Rattle.s2_cover.specs.Covers.{leaves_of, IsCanonical, IsRanges, spans_have, IsLongestRun, IsLaid, IsLargestFrom, IsLargestFitting};
@@ -36,7 +37,8 @@ impl Cover {
         self.cells.as_slice()
     }
 
-    /// How many squares `cover` compared with the rectangle to find the cells; 0 for covers of other origin.
+    /// How many squares `cover` compared with the rectangle to find the cells; 0 for a cover that was made of
+    /// ranges or of a list of cells.
     pub fn looked(&self) -> u64
         ensures { result ≡ self.now.looked }
     {
@@ -73,8 +75,8 @@ impl Cover {
         Ok(Cover { cells, looked: 0 })
     }
 
-    /// The cover with these cells, which have to be the canonical list of their leaves, and the number of
-    /// squares that were compared with a rectangle to find them.
+    /// The cover with these cells, which have to be the canonical list of their leaves. `looked` is how many
+    /// squares were compared with a rectangle to find them.
     pub(crate) fn of_canonical(cells: Vec<CellId>, looked: u64) -> Cover
         requires { IsCanonical (leaves_of cells.items) cells.items }
         ensures ids { result.ids ≡ cells.items }
@@ -83,7 +85,7 @@ impl Cover {
         Cover { cells, looked }
     }
 
-    /// A copy of the cover.
+    /// An equal cover, in memory of its own, with the same number `looked`.
     ///
     /// # Errors
     ///
@@ -100,8 +102,8 @@ impl Cover {
 }
 
 /// The canonical cover of all leaves of `cells` (`S2CellUnion::Normalize`), which may be in any order,
-/// overlap and repeat; of no cells, the empty cover. After one sort, the time is linear in the number of
-/// cells given and returned.
+/// overlap and repeat. For no cells it is the empty cover. After one sort, the time is linear in the number
+/// of cells given and returned.
 ///
 /// # Errors
 ///
@@ -121,8 +123,9 @@ pub fn normalise(alloc: Global, cells: &[CellId]) -> Result<Cover, AllocError>
     Ok(Cover { cells, looked: 0 })
 }
 
-// The largest cells that lie in `spans`, the ranges of a set of leaves, ascending. They are put into `empty`,
-// whose memory is reused.
+// The canonical list of the cells of a set of leaves (`set` in the contract), whose ranges are `spans`: the
+// largest cells that lie in them, ascending. The list takes over the memory of `empty`, which has no cells.
+// `AllocError` if memory runs out.
 fn largest_cells(empty: Vec<CellId>, spans: &[Span]) -> Result<Vec<CellId>, AllocError>
     ghost set: { ℕ → Bool }
     requires empty { empty.items ≡ [] }
@@ -137,8 +140,9 @@ fn largest_cells(empty: Vec<CellId>, spans: &[Span]) -> Result<Vec<CellId>, Allo
     Ok(cells)
 }
 
-// Appends the largest cells that lie in `span`, a longest run of the set's positions, from its first position
-// to its last. `cells` has the cells of the spans before it.
+// Appends the largest cells that lie in `span`, from its first position to its last. `span` is one of the
+// ranges of `set`, and `cells` has the cells of those before it. `AllocError` if memory runs out; `cells` may
+// then have some of the new cells.
 fn push_cells(cells: &mut Vec<CellId>, span: &Span) -> Result<(), AllocError>
     ghost set: { ℕ → Bool }
     requires run { IsLongestRun set span.now }
@@ -155,6 +159,7 @@ fn push_cells(cells: &mut Vec<CellId>, span: &Span) -> Result<(), AllocError>
 }
 
 // The largest cell whose first leaf is at the position `first` and whose last leaf is at `last` or before.
+// Its id is twice its first position, plus its lowest set bit, and so is always valid.
 fn largest_from(first: u64, last: u64) -> CellId
     requires ordered { first ≤ last }
     requires below { last < 6 * 2 ^ 60 }

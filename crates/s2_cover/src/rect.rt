@@ -1,4 +1,5 @@
-//! Rectangles of leaves on a face.
+//! Rectangles of leaves on a face of S2's cube. A face is a grid of `2^30` by `2^30` leaves with the
+//! coordinates `i` and `j`. Its squares of a level are cells, with `2^(30 - level)` leaves along a side.
 
 ghost use Rattle.std.specs.Prelude.{◌≡◌, ◌&&◌, nat_le};
 ghost use Rattle.std.specs.Int.{is_in_range};
@@ -46,6 +47,7 @@ impl fmt::Display for RectFault {
 
     ghost output = { λ fault. Some (rect_fault_text fault) };
 
+    // The fault as a sentence, in lower case and without a full stop.
     fn fmt<W: fmt::Write>(&self, f: &mut fmt::Formatter<W>) -> fmt::Result {
         f.pad(match self {
             RectFault::Face => "a face is 0 to 5",
@@ -92,8 +94,8 @@ impl Model for Rect {
 }
 
 impl Rect {
-    /// The rectangle of the leaves of `face` (0 to 5) with coordinates `i_min..=i_max` and `j_min..=j_max`
-    /// (0 to `2^30 - 1`), and with squares of `level` (8 to 24).
+    /// The rectangle of the leaves of `face` (0 to 5) with coordinates `i_min..=i_max` and `j_min..=j_max` (0
+    /// to `2^30 - 1`). `level` (8 to 24) is that of the squares that make up its footprint.
     ///
     /// # Errors
     ///
@@ -144,28 +146,28 @@ impl Rect {
         self.face
     }
 
-    /// The least coordinate `i` of a leaf.
+    /// The least coordinate `i` of a leaf of the rectangle, 0 to `2^30 - 1`.
     pub fn i_min(&self) -> u32
         ensures { result ≡ self.now.i_min }
     {
         self.i_min
     }
 
-    /// The greatest coordinate `i` of a leaf.
+    /// The greatest coordinate `i` of a leaf of the rectangle; it is included.
     pub fn i_max(&self) -> u32
         ensures { result ≡ self.now.i_max }
     {
         self.i_max
     }
 
-    /// The least coordinate `j` of a leaf.
+    /// The least coordinate `j` of a leaf of the rectangle, 0 to `2^30 - 1`.
     pub fn j_min(&self) -> u32
         ensures { result ≡ self.now.j_min }
     {
         self.j_min
     }
 
-    /// The greatest coordinate `j` of a leaf.
+    /// The greatest coordinate `j` of a leaf of the rectangle; it is included.
     pub fn j_max(&self) -> u32
         ensures { result ≡ self.now.j_max }
     {

@@ -1,4 +1,4 @@
-//! Comparison of the squares of a face with a rectangle.
+//! Comparison of the squares of a face with a rectangle: how they overlap.
 
 ghost use Rattle.std.specs.Prelude.{◌≡◌, ◌≢◌, ℕ, ◌+◌, ◌/◌, ◌^◌, ◌<◌, ◌≤◌};
 ghost use Rattle.s2_hilbert.specs.Grid.{IsSquare};
@@ -11,7 +11,7 @@ use s2_hilbert::{Square, side_of};
 use std::marker::Model;
 
 /// A rectangle in coordinates of the squares of its level: the squares that it touches, from (`a_min`,
-/// `b_min`) to (`a_max`, `b_max`).
+/// `b_min`) to (`a_max`, `b_max`), both included. `a` is along `i`, `b` along `j`.
 #[derive(Clone, Copy, Debug)]
 pub(crate) struct Widened {
     face: u8,
@@ -22,7 +22,7 @@ pub(crate) struct Widened {
     b_max: u32,
 }
 
-/// How the leaves of a square overlap those of a rectangle.
+/// How the leaves of a square overlap those of a widened rectangle.
 #[derive(Clone, Copy, Debug, PartialEq, Eq)]
 pub(crate) enum Overlap {
     /// The square has no leaf of the rectangle.
@@ -67,7 +67,8 @@ impl Model for Widened {
 }
 
 impl Widened {
-    /// The squares of the level of `rect` that it touches.
+    /// The squares of the level of `rect` that it touches. The leaf coordinates are divided by the side of
+    /// such a square.
     pub(crate) fn of_rect(rect: &Rect) -> Widened
         ensures value { result ≡ widened rect.now }
         ensures valid { IsWide result }
@@ -85,8 +86,8 @@ impl Widened {
     }
 }
 
-/// How `square` overlaps the rectangle `wide`, both on one face; the square's level is at most that of the
-/// rectangle. Adds one to `looked`.
+/// How `square` overlaps the squares of `wide`, on the same face; the square's level is at most that of
+/// `wide`. Adds one to `looked`, the number of comparisons.
 pub(crate) fn compare(wide: &Widened, square: &Square, looked: &mut u64) -> Overlap
     requires wide { IsWide wide.now }
     requires square { IsSquare square.now }
@@ -104,7 +105,7 @@ pub(crate) fn compare(wide: &Widened, square: &Square, looked: &mut u64) -> Over
     )
 }
 
-// The overlap of a square with a rectangle, from the overlaps of its ranges of `i` and of `j`.
+// The overlap of a square with a widened rectangle, from those of its range of `i` and of its range of `j`.
 fn combine(i_overlap: Overlap, j_overlap: Overlap) -> Overlap
     ensures { result ≡ spec.combined_overlap i_overlap j_overlap }
 {
@@ -116,7 +117,8 @@ fn combine(i_overlap: Overlap, j_overlap: Overlap) -> Overlap
 }
 
 // How the leaf coordinates `span.0..=span.1` overlap the squares with the coordinates `least..=greatest`,
-// which have `side` leaves along a side. They are `Across` only if they lie in more than one square.
+// along one axis; a square has `side` leaves along a side. They are `Across` only if they lie in more than
+// one square.
 fn compare_range(span: (u32, u32), least: u32, greatest: u32, side: u32) -> Overlap
     requires span { span.0 ≤ span.1 }
     requires order { least ≤ greatest }

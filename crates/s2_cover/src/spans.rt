@@ -1,4 +1,4 @@
-//! Ranges of leaf positions.
+//! Ranges of leaf positions (a leaf's position is its number along S2's curve, counted from 0).
 
 ghost use Rattle.std.specs.Prelude.{◌≡◌, ◌<◌, ℕ, IfOk, length};
 ghost use Rattle.std.specs.List.Sorted.{IsNonDecreasingBy};
@@ -39,7 +39,7 @@ impl Model for Ranges {
 }
 
 impl Ranges {
-    /// The spans, in ascending order.
+    /// The ranges of the set, each as a span, in ascending order.
     pub fn spans(&self) -> &[Span]
         ensures value { result.now ≡ self.now }
         ensures ranges { IsRanges (spans_have self.now) self.now }
@@ -47,7 +47,7 @@ impl Ranges {
         self.spans.as_slice()
     }
 
-    /// A copy of the set.
+    /// An equal set, in memory of its own.
     ///
     /// # Errors
     ///
@@ -60,7 +60,7 @@ impl Ranges {
     }
 
     /// The leaves of `cells` as ranges, in one pass. The cells have to ascend by their first leaves; they may
-    /// overlap and repeat.
+    /// overlap and repeat. Cells that overlap or follow each other with no gap are joined to one range.
     ///
     /// # Errors
     ///

@@ -1,4 +1,4 @@
-//! Covers of rectangles.
+//! Covers of rectangles, found by a walk down the squares of a face.
 
 ghost use Rattle.std.specs.Prelude.{◌≡◌, ◌↔◌, ℕ, ◌+◌, ◌-◌, ◌^◌, ◌<◌, ◌≤◌, [], ◌∷◌, ◌++◌, IsTrue, IfOk, IfErr, OnOk, length};
 ghost use Rattle.std.specs.Int.{IsInRange};
@@ -34,6 +34,7 @@ impl fmt::Display for CoverFault {
 
     ghost output = { λ fault. Some (cover_fault_text fault) };
 
+    // The fault as a sentence, in lower case and without a full stop.
     fn fmt<W: fmt::Write>(&self, f: &mut fmt::Formatter<W>) -> fmt::Result {
         f.pad(match self {
             CoverFault::TooManyCells { .. } => "the cover has too many cells",
@@ -47,15 +48,18 @@ impl Error for CoverFault {}
 impl<T: Drop> From<AllocFailed<T>> for CoverFault {
     ghost from_gives = { λ _ e. e ≡ OutOfMemory };
 
+    // A `Vec` couldn't grow, so memory ran out. The value that was to be added is dropped.
     fn from(_e: AllocFailed<T>) -> CoverFault {
         CoverFault::OutOfMemory
     }
 }
 
-/// The canonical cover of a rectangle's footprint, if it has at most `limit` cells.
+/// The canonical cover of a rectangle's footprint, if it has at most `limit` cells. (The footprint has all
+/// leaves that share a square of the rectangle's level with one of the rectangle's.)
 ///
 /// The search goes down from the whole face and compares at most `1 + 96 * (limit + 1)` squares with the
-/// rectangle: the face, and for each cell four children on each of up to 24 levels.
+/// rectangle: the face, and four children on each of up to 24 levels for each cell, up to the one that is too
+/// many.
 ///
 /// # Errors
 ///
@@ -84,9 +88,10 @@ pub fn cover(alloc: Global, rect: &Rect, limit: u32) -> Result<Cover, CoverFault
     Ok(Cover::of_canonical(cells, looked))
 }
 
-// Appends the canonical cells of the rectangle `wide` that lie in `square`, and adds the number of
-// comparisons to `looked`. `TooManyCells` if `cells` would have more than `limit`, `OutOfMemory` if
-// memory runs out.
+// Appends the cells of the canonical cover of `wide` (a rectangle, as the squares that it touches) that lie
+// in `square`, in the order of the curve. Adds the number of comparisons to `looked`. A square of the
+// rectangle's level is never `Across`, so the walk ends there. `TooManyCells` if `cells` would have more than
+// `limit`, `OutOfMemory` if memory runs out.
 // Long: the state of the walk at a square has nine facts, and each call within hands on each by its name.
 fn walk(
     wide: &Widened,
@@ -123,8 +128,8 @@ fn walk(
     Ok(())
 }
 
-// Appends the cell of `square`. `TooManyCells`, with `looked`, if there are `limit` cells already;
-// `OutOfMemory` if memory runs out.
+// Appends the cell of `square`. `TooManyCells` if there are `limit` cells already; it reports `looked`, the
+// number of comparisons so far. `OutOfMemory` if memory runs out.
 fn push_cell(
     square: &Square,
     limit: u32,

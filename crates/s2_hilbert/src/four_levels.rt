@@ -1,5 +1,6 @@
-//! The curve through a face. The two highest levels are walked one at a step, the other 28 by tables, four at
-//! a step.
+//! The curve through a face: from a leaf to its place, and back. The two highest levels are walked one at a
+//! step, the other 28 by tables, four at a step. An orientation of the curve, 0 to 3, has a swap bit 1 (`i`
+//! and `j` are exchanged) and an invert bit 2 (both are reversed).
 
 ghost use Rattle.std.specs.Prelude.{◌≡◌, ℕ, ◌+◌, ◌*◌, ◌/◌, ◌%◌, ◌^◌, ◌<◌, slice_index};
 ghost use Rattle.s2_hilbert.specs.Grid as grid;
@@ -16,7 +17,7 @@ const FOURS: u8 = 7;
 const EVEN_DIGITS: u32 = 0x0f0f_0f0f;
 
 /// The place of the leaf (`i`, `j`) along the curve through a face, counted from 0. `turn` is the orientation
-/// of the curve in the whole face (swap bit 1, invert bit 2). `row` is where the table's entries for the
+/// of the curve in the whole face. In the body, `row` is the index at which the table's entries for the
 /// orientation that was reached begin.
 pub fn place_on_face(turn: u8, i: u32, j: u32) -> u64
     requires { turn < 4 }
@@ -37,7 +38,8 @@ pub fn place_on_face(turn: u8, i: u32, j: u32) -> u64
 }
 
 /// The coordinates (`i`, `j`) of the leaf at the place `along`, counted from 0, of the curve through a face
-/// with the orientation `turn`: the inverse of `place_on_face`. `half` is the orientation one level down.
+/// with the orientation `turn`: the inverse of `place_on_face`. In the body, `half` is the orientation one
+/// level down, and `row` the index at which the table's entries for the orientation that was reached begin.
 pub fn point_on_face(turn: u8, along: u64) -> (u32, u32)
     requires turn { turn < 4 }
     requires along { along < curve.leaf_count 0 }
@@ -74,8 +76,8 @@ fn paired_digits(i: u32, j: u32) -> [u32; 2]
     [even_digits(i, j), even_digits(i >> 4, j >> 4)]
 }
 
-// The hex digits of `i` and `j` at even places: each byte has one of `i` in its upper half, one of `j` in its
-// lower half.
+// The hex digits of `i` and `j` at even places (the lowest digit has place 0): each byte has one of `i` in
+// its upper half, and one of `j` in its lower half.
 fn even_digits(i: u32, j: u32) -> u32
     ensures { (byte : ℕ) → byte < 4 → result / 2 ^ (8 * byte) % 256
         ≡ 16 * (i / 2 ^ (8 * byte) % 16) + j / 2 ^ (8 * byte) % 16 }

@@ -1,4 +1,5 @@
-//! Laws of the definitions. Each is the contract of a function that does nothing.
+//! Laws of the definitions. Each is the contract of a function that does nothing. A caller makes the law
+//! known to the prover by calling the function.
 
 ghost use Rattle.std.specs.Prelude.{◌≡◌, ◌↔◌, ℕ, ◌*◌, ◌/◌, ◌^◌, ◌<◌, ◌≤◌};
 ghost use Rattle.std.specs.Int.{IsInRange};
@@ -15,8 +16,8 @@ pub fn positions_are_leaves()
 {}
 
 /// A leaf lies in a square if and only if its position is from the first to the last one of the square, both
-/// included (`range`). If one leaf lies in a square, another one does if and only if both lie in one square of
-/// that level (`share`).
+/// included (`range`). If one leaf lies in a square, another one does if and only if both lie in one square
+/// of that level (`share`).
 pub fn squares_are_ranges()
     ensures range { (leaf : GridLeaf) (square : GridSquare) → IsLeaf leaf → IsSquare square →
         LiesInSquare leaf square

@@ -1,4 +1,5 @@
-//! Leaf cells and their positions on the curve.
+//! Leaf cells and their positions on the curve. The curve has an orientation, 0 to 3, in each face: with the
+//! swap bit 1 `i` and `j` are exchanged, with the invert bit 2 both are reversed.
 
 ghost use Rattle.std.specs.Prelude.{◌≡◌, ◌*◌, ◌^◌, ◌<◌};
 ghost use Rattle.std.specs.Option.{SomeIff};
@@ -14,7 +15,7 @@ pub const FACES: u8 = 6;
 /// How many leaves a face has along each side.
 pub const FACE_SIDE: u32 = 1 << LEAF_LEVEL;
 
-// Proves that the constants are those of the definitions.
+// Does nothing. Its contract proves that the constants are those of the definitions in `specs/`.
 fn has_the_limits()
     ensures faces { FACES ≡ face_count }
     ensures side { FACE_SIDE ≡ side_of 0 }
@@ -53,8 +54,8 @@ impl Leaf {
     }
 }
 
-/// The position of a leaf among all leaves, counted from 0 along the curve, face after face. Odd faces begin
-/// with the orientation 1, even ones with 0.
+/// The position of a leaf among the leaves of all faces, counted from 0 along the curve. In odd faces the
+/// curve begins with the orientation 1, in even ones with 0.
 pub fn position(leaf: Leaf) -> u64
     ensures value { result ≡ position_of leaf }
     ensures below { result < 6 * 2 ^ 60 }
@@ -64,7 +65,8 @@ pub fn position(leaf: Leaf) -> u64
     u64::from(leaf.face) * FACE_LEAVES + along
 }
 
-/// The leaf at `position` along the curve: the inverse of the function `position`.
+/// The leaf at `position` along the curve, counted from 0 over all faces: the inverse of the function
+/// `position`.
 pub fn leaf_at(position: u64) -> Leaf
     requires { position < 6 * 2 ^ 60 }
     ensures value { result ≡ grid_leaf_at position }

@@ -10,14 +10,15 @@ pub const LEAF_LEVEL: u8 = 30;
 /// How many leaves a face has.
 pub const FACE_LEAVES: u64 = 1 << 60;
 
-// Proves that the constants are those of the definitions.
+// Does nothing. Its contract proves that the constants are those of the definitions in `specs/`.
 fn has_the_limits()
     ensures level { LEAF_LEVEL ≡ grid.leaf_level }
     ensures leaves { FACE_LEAVES ≡ curve.leaf_count 0 }
 {}
 
-/// The quadrant of the leaf (`i`, `j`), 0 to 3, in its square of `2^(bit + 1)` leaves along each side: 2 in
-/// the upper half along `i`, plus 1 in the upper half along `j`.
+/// The quadrant, 0 to 3, that the leaf (`i`, `j`) has in its square of `2^(bit + 1)` leaves along each side:
+/// 2 in the upper half along `i`, plus 1 in the upper half along `j`. A `bit` of 29 gives the quadrant in the
+/// whole face.
 pub fn quadrant_of(bit: u8, i: u32, j: u32) -> u8
     requires { bit < grid.leaf_level }
     ensures value { result ≡ curve.quadrant_of bit i j }

@@ -1,4 +1,7 @@
-//! The table of quadrants of the curve (S2's `kPosToIJ` and `kPosToOrientation`).
+//! The table of quadrants of the curve (S2's `kPosToIJ` and `kPosToOrientation`). A quadrant is 2 in the
+//! upper half of a square along `i`, plus 1 in the upper half along `j`. A place, 0 to 3, says as which of
+//! the four the curve visits a quadrant. An orientation, 0 to 3, has a swap bit 1 (`i` and `j` are exchanged)
+//! and an invert bit 2 (both are reversed).
 
 ghost use Rattle.std.specs.Prelude.{◌≡◌, ◌<◌};
 ghost use Rattle.s2_hilbert.specs.Curve as curve;
@@ -30,7 +33,7 @@ static STEPS: [[CurveStep; 4]; 4] = [
     steps![2 3, 1 3, 3 0, 0 2],
 ];
 
-// Proves that the constants are the tables of the definitions.
+// Does nothing. Its contract proves that the constants are the tables of the definitions in `specs/`.
 fn has_the_tables()
     ensures quadrants { QUADRANTS ≡ curve.table_of_quadrants }
     ensures changes { CHANGES ≡ curve.changes_of_turn }
@@ -47,7 +50,8 @@ pub fn quadrant_at(turn: u8, place: u8) -> u8
     QUADRANTS[turn as usize][place as usize]
 }
 
-/// The step down to `quadrant`, 0 to 3, from a square where the curve has the orientation `turn`.
+/// The place along the curve of `quadrant`, 0 to 3, in a square where the curve has the orientation `turn`,
+/// and the orientation in that quadrant.
 #[tactic(auto, unfolding(crate::specs::Curve::place_of, crate::specs::Curve::turned))]
 pub fn step_to(turn: u8, quadrant: u8) -> &'static CurveStep
     requires turn { turn < 4 }

@@ -1,4 +1,5 @@
-//! Squares of leaves, in the order of the curve.
+//! Squares of leaves, in the order of the curve. The curve has an orientation, 0 to 3, in each square: with
+//! the swap bit 1 `i` and `j` are exchanged, with the invert bit 2 both are reversed.
 
 ghost use Rattle.std.specs.Prelude.{◌≡◌, ◌↔◌, ℕ, ◌+◌, ◌-◌, ◌*◌, ◌/◌, ◌^◌, ◌<◌, ◌≤◌};
 ghost use Rattle.std.specs.Int.{IsInRange};
@@ -11,9 +12,9 @@ use crate::levels::{FACE_LEAVES, LEAF_LEVEL};
 use crate::quadrants::{quadrant_at, turned};
 use std::marker::Model;
 
-/// A square of leaves: its face, its level from 0 for a whole face to 30 for a leaf, its coordinates
-/// in the grid of the squares of that level, and the orientation of the curve in it (swap bit 1,
-/// invert bit 2), which the other four determine.
+/// A square of leaves: its face, its level from 0 for a whole face to 30 for a leaf, its coordinates (`a`
+/// along `i`, `b` along `j`) in the grid of the squares of that level, and the orientation of the curve in it
+/// (swap bit 1, invert bit 2), which the other four determine.
 #[derive(Clone, Copy, Debug, PartialEq, Eq, Hash)]
 pub struct Square {
     pub face: u8,
@@ -58,7 +59,8 @@ impl Square {
         }
     }
 
-    /// The quarter of this square that the curve visits at place `k`, 0 to 3. It is one level down.
+    /// The quarter of this square that the curve visits at place `k`, 0 to 3. It is one level down, so this
+    /// square must not be a leaf.
     // Long: five numbers of a square, and which of its parent's leaves it has.
     pub fn child(&self, k: u8) -> Square
         requires k { k < 4 }
@@ -86,7 +88,7 @@ impl Square {
         }
     }
 
-    /// The position along the curve of the square's first leaf.
+    /// The position of the square's first leaf, counted from 0 along the curve over all faces.
     pub fn first(&self) -> u64
         ensures value { result ≡ first_position self.now }
         ensures leaves { (leaf : GridLeaf) → IsLeaf leaf → LiesInSquare leaf self.now
@@ -98,7 +100,7 @@ impl Square {
         u64::from(self.face) * FACE_LEAVES + place * leaf_count(self.level)
     }
 
-    /// The position along the curve of the square's last leaf.
+    /// The position of the square's last leaf, counted as for `first`.
     pub fn last(&self) -> u64
         ensures value { result ≡ last_position self.now }
         ensures leaves { (leaf : GridLeaf) → IsLeaf leaf → LiesInSquare leaf self.now
@@ -127,9 +129,9 @@ impl Square {
     }
 }
 
-// The place of the square (`a`, `b`) of a level along the curve through a face, among the squares of that
-// level: the place of any of its leaves, divided by the number of its leaves. `turn` is the orientation of
-// the curve in the face.
+// The place of the square (`a`, `b`) of `level` along the curve through a face, counted from 0 among the
+// squares of that level. It is the place of any of the square's leaves, divided by how many leaves the square
+// has. `turn` is the orientation of the curve in the face.
 fn place_of_square(level: u8, turn: u8, a: u32, b: u32) -> u64
     requires level { level ≤ grid.leaf_level }
     requires turn { turn < 4 }
@@ -142,7 +144,7 @@ fn place_of_square(level: u8, turn: u8, a: u32, b: u32) -> u64
     place_on_face(turn, a * side, b * side) / leaf_count(level)
 }
 
-// How many leaves a square of a level has.
+// How many leaves a square of `level`, 0 to 30, has: four times as many on each level up.
 fn leaf_count(level: u8) -> u64
     requires { level ≤ grid.leaf_level }
     ensures { result ≡ curve.leaf_count level }
@@ -159,8 +161,8 @@ pub fn side_of(level: u8) -> u32
     1 << (LEAF_LEVEL - level)
 }
 
-// The least and the greatest leaf coordinate in the squares of `level` that have the coordinate `coordinate`
-// in the grid of that level.
+// The least and the greatest leaf coordinate in the squares of `level` whose coordinate in the grid of that
+// level is `coordinate`, along either axis.
 fn span(level: u8, coordinate: u32) -> (u32, u32)
     requires level { level ≤ grid.leaf_level }
     requires coordinate { coordinate < 2 ^ level }

@@ -1,4 +1,5 @@
-//! Areas: the volumes of a plan.
+//! Areas: the volumes of a plan. A slab has the points of one range of a volume's leaves (numbered along the
+//! S2 curve) in the volume's window of altitudes and times.
 
 ghost use Rattle.std.specs.Prelude.{◌≡◌, ◌*◌, ◌<◌, ◌≤◌, Some, None, if◌then◌else◌, IsTrue, IfOk, length};
 ghost use Rattle.std.specs.List.Sorted.{IsPermutation, IsNonDecreasingBy};
@@ -32,7 +33,8 @@ impl Model for Area {
 }
 
 impl Area {
-    /// The area of these volumes, or `None` if there are none or more than 32; they are dropped then.
+    /// The area of these volumes, in their order. `None` if there are none or more than 32; the volumes are
+    /// dropped then.
     pub fn try_new(volumes: Vec<Volume>) -> Option<Area>
         ensures { result ≡ (if is_area volumes.items then Some volumes.items else None) }
     {
@@ -65,7 +67,8 @@ impl Area {
         sorted_slabs(*self.volumes.allocator(), &self.volumes)
     }
 
-    /// How many slabs the area has: one for each range of each of its volumes.
+    /// How many slabs the area has: one for each range of leaves of each of its volumes. There are at most
+    /// 32,768.
     pub fn span_count(&self) -> u32
         ensures value { result ≡ area_spans self.now }
         ensures few { result ≤ max_volumes * max_cover }
@@ -79,7 +82,7 @@ impl Area {
     }
 
     /// How many cells the area has: for each of its volumes those of its cell list, or of the canonical cover
-    /// of its rectangle.
+    /// of its rectangle. There are at most 32,768.
     pub fn cell_count(&self) -> u32
         ensures value { result ≡ area_cells self.now }
         ensures few { result ≤ max_volumes * max_cover }
@@ -104,14 +107,15 @@ impl Area {
         Ok(bounds_of(&slabs))
     }
 
-    /// Has its volumes drop their ranges (`Volume::drop_ranges`). The area stays as it is.
+    /// Frees the memory that its volumes have for their ranges of leaves (`Volume::drop_ranges`). As a value
+    /// the area stays as it is.
     pub fn drop_ranges(&mut self)
         ensures { self.new ≡ self.old }
     {
         drop_ranges_of(&mut self.volumes);
     }
 
-    /// An equal area.
+    /// An equal area, in memory of its own.
     ///
     /// # Errors
     ///
@@ -125,7 +129,8 @@ impl Area {
     }
 }
 
-// The slabs of volumes, ascending by their first leaves.
+// The slabs of volumes, ascending by their first leaves; those with the same first leaf in any order.
+// `AllocError` if memory runs out.
 fn sorted_slabs(alloc: Global, volumes: &[Volume]) -> Result<Vec<Slab>, AllocError>
     ensures ranges { IfOk result (λ slabs. AreSortedSlabs volumes.now slabs.items) }
     ensures filled { 0 < length volumes.now → IfOk result (λ slabs. AreFilled slabs.items) }
@@ -133,7 +138,8 @@ fn sorted_slabs(alloc: Global, volumes: &[Volume]) -> Result<Vec<Slab>, AllocErr
     Ok(sort_by_first(slabs_of(alloc, volumes)?))
 }
 
-// The slabs of volumes, one volume after the other.
+// The slabs of volumes, one volume after the other, in the order of the curve for each. `AllocError` if
+// memory runs out.
 fn slabs_of(alloc: Global, volumes: &[Volume]) -> Result<Vec<Slab>, AllocError>
     ensures ranges { IfOk result (λ slabs. AreAreaSlabs volumes.now slabs.items) }
     ensures filled { 0 < length volumes.now → IfOk result (λ slabs. AreFilled slabs.items) }
@@ -145,7 +151,7 @@ fn slabs_of(alloc: Global, volumes: &[Volume]) -> Result<Vec<Slab>, AllocError>
     Ok(slabs)
 }
 
-// Sorts slabs, ascending by their first leaves.
+// Sorts slabs, ascending by their first leaves; those with the same first leaf come in any order.
 #[tactic(auto, using(crate::proofs::Filled::filled_again))]
 fn sort_by_first(mut slabs: Vec<Slab>) -> Vec<Slab>
     ensures same { IsPermutation slabs.items result.items }
@@ -156,7 +162,7 @@ fn sort_by_first(mut slabs: Vec<Slab>) -> Vec<Slab>
     slabs
 }
 
-// Copies of the volumes, in their order.
+// Copies of the volumes, in their order; `AllocError` if memory runs out.
 fn copies(volumes: &Vec<Volume>) -> Result<Vec<Volume>, AllocError>
     ensures { IfOk result (λ copies. copies.items ≡ volumes.now.items) }
 {
@@ -167,7 +173,7 @@ fn copies(volumes: &Vec<Volume>) -> Result<Vec<Volume>, AllocError>
     Ok(copies)
 }
 
-// Has the volumes drop their ranges. As values they stay as they are.
+// Has each volume drop its ranges (`Volume::drop_ranges`). As values the volumes stay as they are.
 fn drop_ranges_of(volumes: &mut [Volume])
     ensures { volumes.new ≡ volumes.old }
 {

@@ -1,4 +1,5 @@
-//! Corners: points that slabs may share, and their order.
+//! Corners: points that slabs may share, and their order: by leaf (its position along the S2 curve), then
+//! altitude, then second.
 
 ghost use Rattle.std.specs.Prelude.{◌≡◌, ◌&&◌, ◌||◌, Bool, int_le, int_lt};
 ghost use Rattle.std.specs.Ordering.{is_lt};
@@ -66,8 +67,8 @@ pub(crate) fn least_corner(mine: &Slab, theirs: &Slab) -> Option<Corner>
     Some(corner)
 }
 
-// The point at the greater of each two lower bounds of two slabs. If they share a point, they share this one,
-// and it is the first that they share.
+// The point at the greater of each two lower bounds of two slabs. If the slabs share a point, this is the
+// first that they share; else one of them doesn't have it.
 fn corner_of(mine: &Slab, theirs: &Slab) -> Corner
     ensures { result ≡ spec.corner_of mine.now theirs.now }
 {
@@ -78,14 +79,14 @@ fn corner_of(mine: &Slab, theirs: &Slab) -> Corner
     }
 }
 
-/// Whether a slab has a point.
+/// Whether the slab has the point `x`.
 pub(crate) fn has(slab: &Slab, x: &Corner) -> bool
     ensures { result ≡ slab_has slab.now x.now }
 {
     has_leaf(slab, x) && has_altitude_and_second(slab, x)
 }
 
-// Whether a slab has a point's leaf.
+// Whether the slab has the leaf of the point `x`.
 #[tactic(auto, using(crate::proofs::Corners::slab_has_position))]
 fn has_leaf(slab: &Slab, x: &Corner) -> bool
     ensures { result ≡ slab_has_leaf slab.now x.now.leaf }
@@ -93,7 +94,7 @@ fn has_leaf(slab: &Slab, x: &Corner) -> bool
     slab.first <= x.pos && x.pos <= slab.last
 }
 
-// Whether a slab has a point's altitude and second.
+// Whether the slab has the altitude and the second of the point `x`.
 fn has_altitude_and_second(slab: &Slab, x: &Corner) -> bool
     ensures { result ≡ ((int_le slab.now.lower x.now.altitude && int_lt x.now.altitude slab.now.upper)
         && (int_le slab.now.start x.now.second && int_lt x.now.second slab.now.end)) }
@@ -102,7 +103,8 @@ fn has_altitude_and_second(slab: &Slab, x: &Corner) -> bool
         && (slab.start <= x.second && x.second < slab.end)
 }
 
-/// The earlier of two points, either of which may be missing; `None` if both are.
+/// The earlier of two points, either of which may be missing; `None` if both are. If they are equal it is
+/// `a`.
 pub(crate) fn earlier(a: Option<Corner>, b: Option<Corner>) -> Option<Corner>
     ensures { (f g : Point → Bool) → IsFirstPoint f a → IsFirstPoint g b
         → IsFirstPoint (λ x. f x || g x) result }
@@ -114,7 +116,7 @@ pub(crate) fn earlier(a: Option<Corner>, b: Option<Corner>) -> Option<Corner>
     }
 }
 
-// Whether a point comes before another, by leaf, then altitude, then second.
+// Whether `a` comes before `b`, by leaf, then altitude, then second; false if they are equal.
 #[tactic(auto, using(crate::proofs::Corners::less_position))]
 fn precedes(a: &Corner, b: &Corner) -> bool
     ensures { result ≡ is_lt (point_cmp a.now b.now) }

@@ -1,4 +1,5 @@
-//! Footprints: the ground that a volume covers, and its bytes.
+//! Footprints: the ground that a volume covers, and its bytes, as they are stored. A call of a law, as
+//! `ranges_are_counted`, does nothing: it makes the law known to the prover.
 
 ghost use Rattle.std.specs.Prelude.{◌≡◌, ◌+◌, ◌≤◌, [], ◌∷◌, IfOk, IfErr, MatchOption, length, slice_index};
 ghost use Rattle.std.specs.{Int.w32, Int.w64, Int.to_be_bytes, Int.from_be_bytes, Option.SomeIff};
@@ -56,8 +57,8 @@ impl Footprint {
         }
     }
 
-    /// The footprint, of 1 to 64 cells or a rectangle, for which `to_bytes` gives these bytes, or `None`
-    /// if there is no such footprint.
+    /// The footprint for which `to_bytes` gives these bytes: 1 to 64 cells, or a rectangle. `None` if there
+    /// is no such footprint.
     ///
     /// # Errors
     ///
@@ -74,7 +75,7 @@ impl Footprint {
         }
     }
 
-    /// An equal footprint.
+    /// An equal footprint, in memory of its own.
     ///
     /// # Errors
     ///
@@ -107,7 +108,8 @@ impl Footprint {
     }
 }
 
-// The leaves of a cell list as ranges of positions along the S2 curve, and how many cells it has.
+// The leaves of a cell list as ranges of positions along the S2 curve, and the length of the list. `Cells` if
+// it does not have 1 to 64 cells, `OutOfMemory` if memory runs out.
 fn cell_ranges(alloc: Global, cells: &[CellId]) -> Result<(Ranges, u32), VolumeFault>
     ensures ok { IfOk result (λ found. HasRanges (shapes.cells cells.now) found.0) }
     ensures cells { IfOk result (λ found. found.1 ≡ length cells.now) }
@@ -122,7 +124,8 @@ fn cell_ranges(alloc: Global, cells: &[CellId]) -> Result<(Ranges, u32), VolumeF
     Ok((ranges, cells.len() as u32))
 }
 
-// The leaves of a rectangle as ranges of positions along the S2 curve, and how many cells its cover has.
+// The leaves of a rectangle's footprint as ranges of positions along the S2 curve, and how many cells its
+// canonical cover has. `TooManyCells` if these are more than 1,024, `OutOfMemory` if memory runs out.
 fn rect_ranges(alloc: Global, rect: &Rect) -> Result<(Ranges, u32), VolumeFault>
     ensures ok { IfOk result (λ found. HasRanges (shapes.rectangle rect.now) found.0) }
     ensures cells { IfOk result (λ found. found.1 ≡ shape_cells (shapes.rectangle rect.now)) }
@@ -137,7 +140,7 @@ fn rect_ranges(alloc: Global, rect: &Rect) -> Result<(Ranges, u32), VolumeFault>
     }
 }
 
-// A cell list as bytes: the byte 1, and each cell's id as eight bytes.
+// A cell list as bytes: the byte 1, and each cell's id as eight bytes, the most significant first.
 fn cell_bytes(alloc: Global, cells: &[CellId]) -> Result<Vec<u8>, AllocError>
     ensures value { IfOk result (λ bytes. bytes.items ≡ footprint_bytes (shapes.cells cells.now)) }
     ensures valid { IfOk result (λ bytes. HasValidParts (shapes.cells cells.now)) }
@@ -149,7 +152,8 @@ fn cell_bytes(alloc: Global, cells: &[CellId]) -> Result<Vec<u8>, AllocError>
     Ok(bytes)
 }
 
-// A rectangle as bytes: the byte 2, and the 18 bytes of its parts.
+// A rectangle as bytes: the byte 2, and then 18 bytes: face, `i_min`, `i_max`, `j_min`, `j_max` and level.
+// The four coordinates have four bytes each, the most significant first.
 fn rect_bytes(alloc: Global, rect: &Rect) -> Result<Vec<u8>, AllocError>
     ensures value { IfOk result (λ bytes. bytes.items ≡ footprint_bytes (shapes.rectangle rect.now)) }
     ensures valid { IfOk result (λ bytes. HasValidParts (shapes.rectangle rect.now)) }
@@ -206,7 +210,8 @@ fn is_allowed_count(count: usize) -> bool
     (1..=MAX_CELLS).contains(&count)
 }
 
-// The rectangle whose bytes after the first, the byte 2, are `bytes`; `None` if they are not those of one.
+// The rectangle whose bytes after the first, the byte 2, are `bytes`. `None` if they are not 18 bytes, or not
+// those of a rectangle.
 fn rect_of(bytes: &[u8]) -> Option<Rect>
     ensures { MatchOption result
         ((shape : Shape) → ¬ AreBytesOf (2 ∷ bytes.now) shape)
@@ -231,7 +236,7 @@ fn rect_in(bytes: &[u8]) -> Option<Rect>
     Rect::try_new(bytes[0], i_min, i_max, j_min, j_max, bytes[17]).ok()
 }
 
-// The number whose four bytes begin at the index `place`, the most significant first.
+// The number of the four bytes from the index `place` on, the most significant first.
 fn number_at(bytes: &[u8], place: usize) -> u32
     requires { place + 4 ≤ length bytes.now }
     ensures { result ≡ from_be_bytes w32

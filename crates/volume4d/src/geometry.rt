@@ -1,4 +1,5 @@
 //! Two slabs: whether they overlap, the smallest one round both, and the one of the points that both have.
+//! The upper bounds of altitudes and of seconds are not included, the last leaf is.
 
 ghost use Rattle.std.specs.Prelude.{◌≡◌, ◌&&◌, false, int_lt, nat_le};
 ghost use Rattle.std.specs.Int.{int_min, int_max};
@@ -8,7 +9,7 @@ ghost use Rattle.volume4d.specs.Slab as spec;
 use crate::slab::Slab;
 
 impl Slab {
-    /// A slab without points.
+    /// A slab without points: its first leaf is after its last.
     pub fn empty() -> Slab
         ensures { (x : Point) → slab_has result x ≡ false }
     {
@@ -31,7 +32,7 @@ impl Slab {
     }
 
     /// The smallest slab round this one and another: the lesser of each two lower bounds, and the greater of
-    /// each two upper ones. It has all points of both. The bounds of a slab without points count, too.
+    /// each two upper ones. It has all points of both. The bounds of a slab count even if it has no points.
     pub fn join(&self, other: &Slab) -> Slab
         ensures { IsJoin self.now other.now result }
     {
@@ -85,7 +86,8 @@ fn meet_on_ground(one: &Slab, other: &Slab) -> bool
     one.first <= other.last && other.first <= one.last
 }
 
-// The lower and the upper bound of the altitudes of the smallest slab round two.
+// The lesser lower bound and the greater upper bound of the altitudes of two slabs: those of the smallest
+// slab round both.
 fn joined_altitudes(one: &Slab, other: &Slab) -> (i32, i32)
     ensures lower { result.0 ≡ int_min one.now.lower other.now.lower }
     ensures upper { result.1 ≡ int_max one.now.upper other.now.upper }
@@ -93,7 +95,7 @@ fn joined_altitudes(one: &Slab, other: &Slab) -> (i32, i32)
     (one.lower.min(other.lower), one.upper.max(other.upper))
 }
 
-// The start and the end of the seconds of the smallest slab round two.
+// The lesser start and the greater end of the seconds of two slabs: those of the smallest slab round both.
 fn joined_seconds(one: &Slab, other: &Slab) -> (i64, i64)
     ensures start { result.0 ≡ int_min one.now.start other.now.start }
     ensures end { result.1 ≡ int_max one.now.end other.now.end }
@@ -101,7 +103,8 @@ fn joined_seconds(one: &Slab, other: &Slab) -> (i64, i64)
     (one.start.min(other.start), one.end.max(other.end))
 }
 
-// The lower and the upper bound of the altitudes that two slabs share: lower < upper only if there are any.
+// The greater lower bound and the lesser upper bound of the altitudes of two slabs: those of the altitudes
+// that both have. The first is less than the second only if there are any.
 fn shared_altitudes(one: &Slab, other: &Slab) -> (i32, i32)
     ensures lower { result.0 ≡ int_max one.now.lower other.now.lower }
     ensures upper { result.1 ≡ int_min one.now.upper other.now.upper }
@@ -109,7 +112,8 @@ fn shared_altitudes(one: &Slab, other: &Slab) -> (i32, i32)
     (one.lower.max(other.lower), one.upper.min(other.upper))
 }
 
-// The start and the end of the seconds that two slabs share: start < end only if there are any.
+// The greater start and the lesser end of the seconds of two slabs: those of the seconds that both have. The
+// first is less than the second only if there are any.
 fn shared_seconds(one: &Slab, other: &Slab) -> (i64, i64)
     ensures start { result.0 ≡ int_max one.now.start other.now.start }
     ensures end { result.1 ≡ int_min one.now.end other.now.end }

@@ -1,4 +1,5 @@
-//! Laws of the definitions of footprints. Each is the contract of a function that does nothing else.
+//! Laws of the definitions of footprints. Each is the contract of a function that does nothing else. A caller
+//! makes the law known to the prover by calling the function.
 
 ghost use Rattle.std.specs.Prelude.{◌≡◌, ◌≤◌, IsTrue, length};
 ghost use Rattle.s2_cover.specs.Covers.{canonical_list};
@@ -10,13 +11,14 @@ use s2_cover::laws::{
     ranges_are_few, shortest,
 };
 
-/// Two footprints that have the same bytes are the same.
+/// Two footprints that have the same bytes (`Footprint::to_bytes`) are the same.
 pub fn one_shape()
     ensures { (one other : Shape) → HasValidParts one → HasValidParts other
         → footprint_bytes one ≡ footprint_bytes other → one ≡ other }
 {}
 
-/// The canonical cover of a footprint has at most as many cells as that of a rectangle may have: 1,024.
+/// The canonical cover of a footprint within its limits has at most 1,024 cells, as many as that of a
+/// rectangle may have.
 pub fn covers_are_few()
     ensures { (shape : Shape) → IsTrue (is_footprint shape) → HasValidParts shape
         → length (canonical_list (shape_positions shape)) ≤ max_cover }
@@ -27,8 +29,8 @@ pub fn covers_are_few()
     shortest();
 }
 
-/// A volume has at most as many spans (ranges of its leaves) as the cover of a rectangle may have cells:
-/// 1,024.
+/// A volume whose footprint is within its limits has at most 1,024 spans (ranges of its leaves), as many as
+/// the cover of a rectangle may have cells.
 pub fn spans_are_few()
     ensures { (v : Block) → IsTrue (is_footprint v.footprint) → HasValidParts v.footprint
         → volume_spans v ≤ max_cover }
@@ -40,7 +42,8 @@ pub fn spans_are_few()
     ranges_are_few();
 }
 
-/// A volume has at most as many cells as the cover of a rectangle may have: 1,024.
+/// A volume whose footprint is within its limits has at most 1,024 cells, as many as the cover of a rectangle
+/// may have.
 pub fn cells_are_few()
     ensures { (v : Block) → IsTrue (is_footprint v.footprint) → volume_cells v ≤ max_cover }
 {}

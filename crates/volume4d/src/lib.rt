@@ -1,6 +1,12 @@
-//! Volumes of flight in four dimensions: footprints (lists of S2 cells, or rectangles of a face) with
-//! altitudes and times, the slabs that have the same points, what two slabs are to each other, and the first
-//! point that two lists of slabs share.
+//! Volumes of flight in four dimensions. A footprint is ground: a list of S2 cells, or a rectangle on a face
+//! of S2's cube. A volume is a footprint with a window: a range of altitudes and one of Unix seconds. An area
+//! has the volumes of a plan.
+//!
+//! A leaf is the smallest S2 cell, and its position is its number along S2's curve over all six faces,
+//! counted from 0. A slab has the points of one range of positions in one window, and volumes are compared by
+//! their slabs. A held slab belongs to a stored plan and has its priority. A meeting is the first point that
+//! slabs share with held slabs, and the greatest priority held there. Points are ordered by leaf, then
+//! altitude, then second.
 #![tactic(auto)]
 
 mod area;

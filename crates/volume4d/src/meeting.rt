@@ -1,4 +1,5 @@
-//! Meetings: the first point that two lists of slabs share.
+//! Meetings: the first point that two lists of slabs share. Points are ordered by leaf, then altitude, then
+//! second.
 
 ghost use Rattle.std.specs.Prelude.{◌≡◌, ◌&&◌, ◌↔◌, IsTrue, true, Some, List};
 ghost use Rattle.std.specs.Option.{option_map};
@@ -71,7 +72,8 @@ impl Meeting {
     }
 }
 
-/// Whether two lists of slabs share a point.
+/// Whether two lists of slabs share a point. The lists may be in any order; it is faster if both ascend by
+/// their first leaves.
 pub fn meet(mine: &[Slab], theirs: &[Slab]) -> bool
     ensures { IsTrue result
         ↔ ((x : Point) × (slabs_have mine.now x ≡ true) × (slabs_have theirs.now x ≡ true)) }
@@ -82,14 +84,15 @@ pub fn meet(mine: &[Slab], theirs: &[Slab]) -> bool
 
 /// The first point that the slabs `mine` share with the held slabs `theirs`, and the greatest priority of
 /// those that hold it; `None` if they share no point. Points are ordered by leaf, then altitude, then second.
+/// The lists may be in any order; it is faster if both ascend by their first leaves.
 pub fn first_meeting(mine: &[Slab], theirs: &[Held]) -> Option<Meeting>
     ensures { IsFirst (is_shared mine.now theirs.now) (top_held theirs.now) result }
 {
     first_meeting_counted(mine, theirs).0
 }
 
-/// As `first_meeting`, and the number of pairs of slabs that were compared, which tests read and of which no
-/// clause speaks.
+/// As `first_meeting`, with the number of pairs of slabs that were compared. Tests read this number; no
+/// clause speaks of it.
 #[tactic(auto, using(crate::proofs::FirstPoints::meeting_of_point, crate::proofs::FirstPoints::none_shared,))]
 pub fn first_meeting_counted(mine: &[Slab], theirs: &[Held]) -> (Option<Meeting>, u128)
     ensures { IsFirst (is_shared mine.now theirs.now) (top_held theirs.now) result.0 }
@@ -101,15 +104,16 @@ pub fn first_meeting_counted(mine: &[Slab], theirs: &[Held]) -> (Option<Meeting>
     }
 }
 
-// The first point that the slabs `mine` share with `theirs`. Adds the number of pairs of slabs that it
-// compares to `pairs`.
+// The first point that the slabs `mine` share with `theirs`; `None` if they share none. Adds the number of
+// pairs of slabs that it compares to `pairs`.
 fn first_held(mine: &[Slab], theirs: &[Held], pairs: &mut u128) -> Option<Corner>
     ensures { IsFirstPoint (λ x. slabs_have mine.now x && helds_have theirs.now x) result }
 {
     first_shared(mine, theirs, pairs)
 }
 
-// The meeting at the point `corner`, or `None` if none of `theirs` holds it.
+// The meeting at the point `corner`, with the greatest priority of those of `theirs` that hold it; `None` if
+// none does.
 fn meeting_at(corner: Corner, theirs: &[Held]) -> Option<Meeting>
     ensures { result ≡ option_map (λ priority. record { point = corner; priority = priority })
         (top_held theirs.now corner) }
@@ -136,7 +140,8 @@ fn top_at(theirs: &[Held], x: &Corner) -> Option<u32>
     top
 }
 
-// The greater of `top` and the priority of `held`, if that holds the point `x`; else `top`.
+// The greater of `top` and the priority of `held`, if that holds the point `x`; else `top`. `None` is less
+// than any priority.
 fn raised(top: Option<u32>, held: &Held, x: &Corner) -> Option<u32>
     ensures { result
         ≡ greater top (level_where (slab_has held.now.slab x.now) held.now.priority) }

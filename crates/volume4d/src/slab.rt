@@ -1,9 +1,10 @@
-//! Slabs: leaves that follow each other along the S2 curve, with altitudes and times.
+//! Slabs: leaves that follow each other along the S2 curve, with altitudes and times. The position of a leaf
+//! is its number along the curve over all six faces, counted from 0.
 
 ghost use Rattle.std.specs.Prelude.{◌<◌, ◌*◌, ◌^◌};
 
-/// The points with a leaf at a position `first..=last` along the S2 curve, an altitude
-/// `lower <= a < upper` and a Unix second `start <= t < end`.
+/// The points with a leaf at a position `first..=last` along the S2 curve, an altitude `lower <= a < upper`
+/// and a Unix second `start <= t < end`. A slab has no points if one of these ranges is empty.
 #[derive(Clone, Copy, Debug, PartialEq, Eq)]
 pub struct Slab {
     /// The position of the first leaf among all leaves along the curve, below `6 * 2^60`.

@@ -1,5 +1,10 @@
-//! The sweep: the first point that two lists of slabs share, found along both lists at once. `pairs` counts
-//! the pairs of slabs that are compared, which tests read and of which no clause speaks.
+//! The sweep: the first point that two lists of slabs share, found along both lists at once. Points are
+//! ordered by leaf, then altitude, then second. `pairs` counts the pairs of slabs that are compared, which
+//! tests read and of which no clause speaks.
+//!
+//! The sweep makes a lane for each window (altitudes and seconds) of the slabs `mine`, at most 32. A lane
+//! walks over `mine` and stops only at slabs with its window. If there are more windows, or if a list isn't
+//! sorted, each pair is compared.
 
 ghost use Rattle.std.specs.Prelude.{◌≡◌, ◌≤◌, ◌&&◌, nat_lt, true, false, List, All, IfSome, IsTrue, length, take};
 ghost use Rattle.std.specs.List.{list_any};
@@ -17,16 +22,17 @@ use crate::slab::Slab;
 // The most lanes: an area has at most so many windows, since all slabs of a volume have the volume's window.
 const MAX_LANES: usize = MAX_VOLUMES;
 
-// A window of altitudes and seconds (the leaves of `window` don't matter), and the slabs of a list that are
-// left. Only slabs with this window count.
+// A window of altitudes and seconds (the leaves of `window` don't matter), and the slabs of `mine` that are
+// left to look at. Only those with this window count.
 #[derive(Clone, Copy, Debug)]
 pub(crate) struct Lane<'a> {
     window: Slab,
     left: &'a [Slab],
 }
 
-/// The first point that a slab of `mine` shares with one of `theirs`. Adds the number of pairs of slabs that
-/// it compares to `pairs`.
+/// The first point that a slab of `mine` shares with one of `theirs`, or `None` if they share none. Adds the
+/// number of pairs of slabs that it compares to `pairs`. The lists may be in any order; it is faster if both
+/// ascend by their first leaves.
 pub(crate) fn first_shared<T: HasSlab>(
     mine: &[Slab],
     theirs: &[T],
@@ -43,8 +49,8 @@ pub(crate) fn first_shared<T: HasSlab>(
     }
 }
 
-// The first shared point (`Some(None)`: there is none) by a sweep; `None` if a list does not ascend, or if
-// `mine` have more than 32 windows.
+// The first point that slabs of `mine` and `theirs` share, by a sweep; `Some(None)` if they share none.
+// `None` if a list does not ascend, or if `mine` have more than 32 windows: then a sweep is not possible.
 fn first_ascending<T: HasSlab>(
     mine: &[Slab],
     theirs: &[T],
@@ -62,7 +68,8 @@ fn first_ascending<T: HasSlab>(
     sweep(mine, theirs, pairs)
 }
 
-// Whether the slabs of a list ascend by their first leaves; equal ones may follow each other.
+// Whether the slabs of a list ascend by their first leaves; equal ones may follow each other. True of no
+// slabs.
 fn is_ascending<T: HasSlab>(list: &[T]) -> bool
     ensures { IsTrue result → Ascend T.slab_of list.now }
 {
@@ -77,7 +84,7 @@ fn is_ascending<T: HasSlab>(list: &[T]) -> bool
     true
 }
 
-// The first shared point of two ascending lists (`Some(None)`: there is none); `None` if `mine` have more
+// The first point that two ascending lists share; `Some(None)` if they share none. `None` if `mine` have more
 // windows than there are lanes.
 fn sweep<T: HasSlab>(mine: &[Slab], theirs: &[T], pairs: &mut u128) -> Option<Option<Corner>>
     requires mine { Ascend (λ s. s) mine.now }
@@ -93,8 +100,8 @@ fn sweep<T: HasSlab>(mine: &[Slab], theirs: &[T], pairs: &mut u128) -> Option<Op
     Some(first_along(&mut lanes[..count], theirs, pairs))
 }
 
-// Makes a lane for each window of `mine`, from the first lane on. Returns the number of windows, or `None`
-// if there are more windows than lanes.
+// Makes a lane for each window of `mine`, from the first lane on, with all of `mine` left to look at. Returns
+// the number of windows, or `None` if there are more windows than lanes.
 fn fill_lanes<'a>(mine: &'a [Slab], lanes: &mut [Lane<'a>]) -> Option<usize>
     requires { HaveAllLeft mine.now lanes.old }
     ensures within { IfSome result (λ count. count ≤ length lanes.new) }
@@ -109,7 +116,7 @@ fn fill_lanes<'a>(mine: &'a [Slab], lanes: &mut [Lane<'a>]) -> Option<usize>
 }
 
 // Makes a lane for the window of `slab` behind the first `count` lanes, if none of these has that window.
-// Returns the new count, or `None` if no lane is free.
+// Returns how many lanes there are then, or `None` if one is needed and none is free.
 fn add_lane<'a>(
     mine: &'a [Slab],
     lanes: &mut [Lane<'a>],
@@ -137,7 +144,7 @@ fn add_lane<'a>(
     Some(count + 1)
 }
 
-// Whether one of the lanes has the window of `slab`.
+// Whether one of the lanes has the window of `slab`: the same altitudes and seconds.
 fn has_lane(lanes: &[Lane], slab: &Slab) -> bool
     ensures { result ≡ list_any (λ l. is_alike l.window slab.now) lanes.now }
 {
@@ -154,9 +161,9 @@ fn are_alike(window: &Slab, slab: &Slab) -> bool
         && window.end == slab.end
 }
 
-// The first point that slabs of the lanes share with `theirs`, which ascend. Each lane drops slabs that end
-// before the current slab of `theirs`: later ones can't meet them. Ends at a slab that begins after the point
-// found so far.
+// The first point that slabs of the lanes share with `theirs`, which ascend; `None` if they share none. Each
+// lane drops slabs that end before the current slab of `theirs`, since later ones can't meet them. The walk
+// ends at a slab that begins after the point found so far.
 fn first_along<T: HasSlab>(lanes: &mut [Lane], theirs: &[T], pairs: &mut u128) -> Option<Corner>
     requires lanes { LanesAscend lanes.old }
     requires theirs { Ascend T.slab_of theirs.now }
@@ -173,8 +180,8 @@ fn first_along<T: HasSlab>(lanes: &mut [Lane], theirs: &[T], pairs: &mut u128) -
     first
 }
 
-// The first point of `found` and those that the lanes share with `other`. The lanes drop slabs that end
-// before `other`.
+// The first of `found` and of the points that the lanes share with `other`; `None` if there is none. The
+// lanes drop slabs that end before `other`.
 fn first_across(
     lanes: &mut [Lane],
     other: &Slab,
@@ -194,8 +201,8 @@ fn first_across(
     first
 }
 
-// The first point of `found` and those that a lane shares with `other`. If their windows meet, the lane drops
-// slabs that end before `other`.
+// The first of `found` and of the points that a lane shares with `other`; `None` if there is none. If their
+// windows meet, the lane drops the slabs at its front that have another window or end before `other`.
 fn first_in_lane(
     lane: &mut Lane,
     other: &Slab,
@@ -216,8 +223,8 @@ fn first_in_lane(
     earlier(found, first_of_head(lane.left, &lane.window, other, pairs))
 }
 
-// Whether the seconds or the altitudes of two slabs don't overlap: then no slab with this window shares a
-// point with `other`.
+// Whether the seconds or the altitudes of two slabs don't overlap. Then no slab with the window of the first
+// shares a point with `other`.
 fn is_apart(window: &Slab, other: &Slab) -> bool
     ensures { IsTrue result → (slabs : List Slab) (x : Point)
         → (alike_have window.now slabs x && slab_has other.now x) ≡ false }
@@ -228,7 +235,8 @@ fn is_apart(window: &Slab, other: &Slab) -> bool
     !meet_in_height(window, other)
 }
 
-// The slabs without those at the front that have another window than `window` or end before `position`.
+// `slabs` without those at the front that have another window than `window` or end before `position`. The
+// first slab left, if any, has this window and reaches `position`.
 fn without_skipped<'a>(slabs: &'a [Slab], window: &Slab, position: u64) -> &'a [Slab]
     requires { Ascend (λ s. s) slabs.now }
     ensures order { Ascend (λ s. s) result.now }
@@ -245,7 +253,8 @@ fn without_skipped<'a>(slabs: &'a [Slab], window: &Slab, position: u64) -> &'a [
     left
 }
 
-// Whether a slab has another window than `window` or ends before `position`.
+// Whether a slab has another window (altitudes and seconds) than `window`, or no leaf at `position` or after
+// it.
 fn is_skipped(window: &Slab, slab: &Slab, position: u64) -> bool
     ensures passed { IsTrue result → (x : Point) → position ≤ position_of x.leaf
         → (is_alike window.now slab.now && slab_has slab.now x) ≡ false }
@@ -254,8 +263,9 @@ fn is_skipped(window: &Slab, slab: &Slab, position: u64) -> bool
     ends_before(slab, position) || !are_alike(window, slab)
 }
 
-// The first point that the slabs `left` with this window share with `other`. The first of them reaches
-// `other` and ascending slabs follow, so if one shares a point, the first shares the earliest.
+// The first point that the slabs of `left` with this window share with `other`; `None` if they share none.
+// The first slab of `left` has the window and reaches `other`, and ascending slabs follow. So if any of them
+// shares a point, the first shares the earliest, and only the first is compared.
 fn first_of_head(left: &[Slab], window: &Slab, other: &Slab, pairs: &mut u128) -> Option<Corner>
     requires order { Ascend (λ s. s) left.now }
     requires begins { BeginsReached window.now other.now.first left.now }
@@ -267,8 +277,8 @@ fn first_of_head(left: &[Slab], window: &Slab, other: &Slab, pairs: &mut u128) -
     }
 }
 
-// The first point that two slabs share. They are compared only if `slab` doesn't begin after the end of
-// `other`.
+// The first point that two slabs share; `None` if they share none. A slab that begins after the end of
+// `other` isn't compared.
 fn compare_if_begun(slab: &Slab, other: &Slab, pairs: &mut u128) -> Option<Corner>
     ensures { IsFirstPoint (λ x. slab_has slab.now x && slab_has other.now x) result }
 {
@@ -278,7 +288,7 @@ fn compare_if_begun(slab: &Slab, other: &Slab, pairs: &mut u128) -> Option<Corne
     compare(slab, other, pairs)
 }
 
-// Whether `position` is after the leaf of the point `first`; false if there is none.
+// Whether `position` is after the leaf of the point `first`; false if there is no point.
 #[tactic(auto, using(crate::proofs::Sweeping::late_after))]
 fn is_after(position: u64, first: &Option<Corner>) -> bool
     ensures { IsTrue result → AreLate position first.now }
@@ -294,7 +304,7 @@ fn is_beyond(position: u64, corner: &Corner) -> bool
     corner.pos < position
 }
 
-// Whether a slab has no point with a leaf at `position` or after it.
+// Whether a slab has no leaf at `position` or after it; true of a slab without leaves.
 fn ends_before(slab: &Slab, position: u64) -> bool
     ensures passed { IsTrue result → IsPassed position slab.now }
     ensures some { result ≡ false → slab.now.first ≤ slab.now.last }
@@ -303,7 +313,7 @@ fn ends_before(slab: &Slab, position: u64) -> bool
     slab.last < slab.first || slab.last < position
 }
 
-// The first shared point of two lists in any order. Compares each pair.
+// The first point that two lists in any order share; `None` if they share none. Compares each pair.
 fn first_of_all_pairs<T: HasSlab>(mine: &[Slab], theirs: &[T], pairs: &mut u128) -> Option<Corner>
     ensures { IsFirstPoint (λ x. slabs_have mine.now x && items_have T.slab_of theirs.now x) result }
 {
@@ -314,7 +324,7 @@ fn first_of_all_pairs<T: HasSlab>(mine: &[Slab], theirs: &[T], pairs: &mut u128)
     first
 }
 
-// The first point that a slab of `mine` shares with `other`. Compares each pair.
+// The first point that a slab of `mine` shares with `other`; `None` if they share none. Compares each pair.
 fn first_shared_with(mine: &[Slab], other: &Slab, pairs: &mut u128) -> Option<Corner>
     ensures { IsFirstPoint (λ x. slabs_have mine.now x && slab_has other.now x) result }
 {
@@ -325,7 +335,8 @@ fn first_shared_with(mine: &[Slab], other: &Slab, pairs: &mut u128) -> Option<Co
     first
 }
 
-// The first point that two slabs share. Adds one to `pairs`.
+// The first point that two slabs share; `None` if they share none. Adds one to `pairs`, up to the greatest
+// `u128`.
 fn compare(slab: &Slab, other: &Slab, pairs: &mut u128) -> Option<Corner>
     ensures { IsFirstPoint (λ x. slab_has slab.now x && slab_has other.now x) result }
 {

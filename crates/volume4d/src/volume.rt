@@ -1,4 +1,6 @@
-//! Volumes.
+//! Volumes: footprints with a window of altitudes and times. A footprint's ranges are its leaves as ranges of
+//! positions (numbers of leaves along the S2 curve). A slab has the points of one range in one window. A call
+//! of a law, as `ranges_are_counted`, does nothing: it makes the law known to the prover.
 
 ghost use Rattle.std.specs.Prelude.{◌≡◌, ◌≤◌, IsTrue, IfOk, IfErr, All};
 ghost use Rattle.s2_cover.specs.Covers.{IsCanonical, IsSpan};
@@ -48,7 +50,8 @@ impl Model for Volume {
 impl Volume {
     ghost use Rattle.volume4d.specs.Footprint.{shape_of};
 
-    /// The volume over a footprint in a window. The footprint is dropped if it is refused.
+    /// The volume over a footprint in a window. The footprint is dropped if it is refused. The memory of its
+    /// ranges, and later of `slabs` and `cover`, comes from `alloc`.
     ///
     /// # Errors
     ///
@@ -76,8 +79,8 @@ impl Volume {
         })
     }
 
-    /// Drops the ranges, which take up to 16 KB. The volume stays as it is: `slabs` and `cover` compute them
-    /// anew.
+    /// Frees the memory of the ranges of the footprint's leaves, up to 16 KB. As a value the volume stays as
+    /// it is: `slabs` and `cover` compute the ranges anew.
     pub fn drop_ranges(&mut self)
         ensures { self.new ≡ self.old }
     {
@@ -92,7 +95,7 @@ impl Volume {
         &self.footprint
     }
 
-    /// The altitudes and times.
+    /// The altitudes and times, within the limits of `Window`.
     pub fn window(&self) -> Window
         ensures value { result ≡ self.now.window }
         ensures limits { IsTrue (is_window self.now.window) }
@@ -119,7 +122,8 @@ impl Volume {
         }
     }
 
-    /// How many slabs the volume has: one for each range of the footprint's leaves along the S2 curve.
+    /// How many slabs the volume has: one for each range of the footprint's leaves along the S2 curve. There
+    /// are at most 1,024.
     pub fn span_count(&self) -> u32
         ensures value { result ≡ volume_spans self.now }
         ensures few { result ≤ max_cover }
@@ -128,6 +132,7 @@ impl Volume {
     }
 
     /// How many cells the volume has: those of its cell list, or of the canonical cover of its rectangle.
+    /// There are at most 1,024.
     pub fn cell_count(&self) -> u32
         ensures value { result ≡ volume_cells self.now }
         ensures few { result ≤ max_cover }
@@ -136,7 +141,8 @@ impl Volume {
         self.cells
     }
 
-    /// The canonical cover of the footprint's leaves. For a rectangle it has at most 1,024 cells.
+    /// The canonical cover of the footprint's leaves: the normal form of S2, a shortest list of cells that
+    /// has just these. For a rectangle it has at most 1,024 cells.
     ///
     /// # Errors
     ///
@@ -151,7 +157,7 @@ impl Volume {
         }
     }
 
-    /// An equal volume.
+    /// An equal volume, in memory of its own. It keeps the ranges if this one does.
     ///
     /// # Errors
     ///
@@ -187,7 +193,7 @@ impl Volume {
 }
 
 // One slab for each of the ranges of a footprint's leaves, ascending, all with the altitudes and seconds of
-// `window`.
+// `window`. `AllocError` if memory runs out.
 fn slabs_over(alloc: Global, ranges: &Ranges, window: Window) -> Result<Vec<Slab>, AllocError>
     requires window { IsTrue (is_window window) }
     ensures slabs { (shape : Shape) → HasRanges shape ranges.now → IfOk result (λ slabs.
@@ -200,7 +206,8 @@ fn slabs_over(alloc: Global, ranges: &Ranges, window: Window) -> Result<Vec<Slab
     slabs_of(alloc, ranges.spans(), window)
 }
 
-// One slab for each span of positions, in order, all with the altitudes and seconds of `window`.
+// One slab for each span of positions, in the order of `spans`, all with the altitudes and seconds of
+// `window`. `AllocError` if memory runs out.
 fn slabs_of(alloc: Global, spans: &[Span], window: Window) -> Result<Vec<Slab>, AllocError>
     requires { All IsSpan spans.now }
     ensures { IfOk result (λ slabs. AreSlabsOn spans.now window slabs.items) }

@@ -1,4 +1,4 @@
-//! The altitudes and times of a volume.
+//! Windows: the altitudes and times of a volume.
 
 ghost use Rattle.std.specs.Prelude.{◌≡◌, pos, ◌≤ℤ◌, ◌<ℤ◌, IsTrue};
 ghost use Rattle.volume4d.specs.{VolumeLimits.within_altitudes, VolumeLimits.within_times, VolumeLimits.within_length, Volume.window_or_fault, Volume.is_window};
@@ -17,7 +17,7 @@ pub struct Window {
     end: i64,
 }
 
-/// Why a window cannot be made.
+/// Why a window cannot be made. If several reasons apply, the first in this order is reported.
 #[derive(Clone, Copy, Debug, PartialEq, Eq)]
 pub enum WindowFault {
     /// The altitudes do not meet `-10,000 <= lower < upper <= 200,000`, in decimetres.
@@ -34,6 +34,7 @@ impl fmt::Display for WindowFault {
 
     ghost output = { λ fault. Some (window_fault_text fault) };
 
+    // The fault as a sentence, in lower case and without a full stop.
     fn fmt<W: fmt::Write>(&self, f: &mut fmt::Formatter<W>) -> fmt::Result {
         f.pad(match self {
             WindowFault::Altitude => "altitudes are -10000 <= lower < upper <= 200000 decimetres",
@@ -79,7 +80,7 @@ const MIN_ALTITUDE: i32 = -10_000;
 // The highest upper bound of altitudes, in decimetres above the WGS84 ellipsoid.
 const MAX_ALTITUDE: i32 = 200_000;
 
-/// The latest end of a volume, and the latest moment, as a Unix second: the end of the year 9998.
+/// The latest end of a volume, and the latest time of a request, as a Unix second: the end of the year 9998.
 pub const MAX_SECOND: i64 = 253_370_764_800;
 
 // The greatest length in time, in seconds: a day.
@@ -87,7 +88,7 @@ const MAX_LENGTH: i64 = 86_400;
 
 impl Window {
     /// The window of the altitudes `lower <= a < upper`, in decimetres above the WGS84 ellipsoid, and of the
-    /// Unix seconds `start <= t < end`.
+    /// Unix seconds `start <= t < end`. `WindowFault` has the limits.
     ///
     /// # Errors
     ///
@@ -113,7 +114,7 @@ impl Window {
         })
     }
 
-    /// The lowest altitude, in decimetres above the WGS84 ellipsoid.
+    /// The lowest altitude, in decimetres above the WGS84 ellipsoid; it is included.
     pub fn lower(&self) -> i32
         ensures value { result ≡ self.now.lower }
         ensures limits { IsTrue (is_window self.now) }
@@ -121,22 +122,21 @@ impl Window {
         self.lower
     }
 
-    /// The upper bound of the altitudes, which does not belong to them, in decimetres above the WGS84
-    /// ellipsoid.
+    /// The upper bound of the altitudes, in decimetres above the WGS84 ellipsoid; it is not included.
     pub fn upper(&self) -> i32
         ensures { result ≡ self.now.upper }
     {
         self.upper
     }
 
-    /// The first Unix second.
+    /// The first Unix second; it is included.
     pub fn start(&self) -> i64
         ensures { result ≡ self.now.start }
     {
         self.start
     }
 
-    /// The Unix second after the last.
+    /// The Unix second after the last; it is not included.
     pub fn end(&self) -> i64
         ensures { result ≡ self.now.end }
     {
@@ -144,14 +144,14 @@ impl Window {
     }
 }
 
-// Whether altitudes, in decimetres, are in order and within the limits.
+// Whether altitudes, in decimetres, are in order and within the limits: -10,000 to 200,000.
 fn are_altitudes(lower: i32, upper: i32) -> bool
     ensures value { result ≡ within_altitudes lower upper }
 {
     MIN_ALTITUDE <= lower && lower < upper && upper <= MAX_ALTITUDE
 }
 
-// Whether Unix seconds are in order and within the limits.
+// Whether Unix seconds are in order and within the limits: 0 to `MAX_SECOND`.
 fn are_times(start: i64, end: i64) -> bool
     ensures value { result ≡ within_times start end }
     ensures bounds { IsTrue result → (pos 0 ≤ℤ start) × (start <ℤ end) }
@@ -159,7 +159,7 @@ fn are_times(start: i64, end: i64) -> bool
     0 <= start && start < end && end <= MAX_SECOND
 }
 
-// Whether the time from `start` to `end`, in seconds, is within the limit of a day.
+// Whether the time from `start` to `end`, in seconds, is at most a day.
 fn is_allowed_length(start: i64, end: i64) -> bool
     requires low { pos 0 ≤ℤ start }
     requires order { start <ℤ end }

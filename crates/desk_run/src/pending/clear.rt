@@ -1,4 +1,8 @@
-//! Clears: the removal of an operator's plans. A function fails only if memory runs out or the store fails.
+//! Clears: the removal of an operator's plans that share a point with a volume, the extent of the clear. A
+//! function fails only if memory runs out or the store fails.
+//!
+//! In contracts, `IsHonest` says that the storage is intact, the clause `reads` that a call only reads, and
+//! the clause `cause` that the store has counted an error that is returned as `Store`.
 
 ghost use Rattle.std.specs.Prelude.{◌≡◌, ◌≤◌, ◌<◌, ◌^◌, ◌∷◌, [], length, IsSome, IfOk, IfErr};
 ghost use Rattle.desk_run.specs.{Calls.IsStoreFaultCounted, Calls.IsClearing, Calls.IsPreparedFor, Calls.ids_in, Verdicts.clear_ruling, Verdicts.is_in};
@@ -17,8 +21,8 @@ use desk_store::{Change, PlanStore};
 use std::alloc::{AllocError, Global};
 use volume4d::{Slab, Volume};
 
-// Prepares the reply and the change that remove an enrolled operator's plans that share a point with
-// `extent`, closed ones too.
+// Prepares the reply and the change that remove an enrolled operator's plans, closed ones too, that share a
+// point with `extent`. The reply says how many they are. If there are none, there is no change.
 pub fn prepare_clear<S: PlanStore>(
     alloc: Global,
     store: &mut S,
@@ -57,7 +61,8 @@ fn pending_clear(
     })
 }
 
-// The ids of those of `rows` that share a point with the extent that has these slabs, in their order.
+// The ids of those of `rows` that share a point with the extent whose slabs are `slabs`, in the order of
+// `rows`.
 fn ids_sharing_point(
     alloc: Global,
     slabs: &[Slab],
@@ -75,7 +80,7 @@ fn ids_sharing_point(
     Ok(ids)
 }
 
-// Whether the plan `row`, closed or not, shares a point with the extent that has these slabs.
+// Whether the plan `row`, closed or not, shares a point with the extent whose slabs are `slabs`.
 fn shares_point(slabs: &[Slab], row: &PlanRow) -> Result<bool, AllocError>
     ensures { (extent : Block) → AreSlabsOf slabs.now (extent ∷ []) →
         IfOk result (λ found. found ≡ is_in extent row.now) }
@@ -83,7 +88,7 @@ fn shares_point(slabs: &[Slab], row: &PlanRow) -> Result<bool, AllocError>
     Ok(share_a_point(slabs, &row.area.slabs()?))
 }
 
-// The number of ids; `u32::MAX` if there are more.
+// The number of ids; `u32::MAX` if 32 bits can't count them.
 fn count_of(ids: &[PlanId]) -> u32
     ensures { length ids.now < 2 ^ 32 → result ≡ length ids.now }
 {

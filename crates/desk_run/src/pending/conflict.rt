@@ -1,5 +1,10 @@
-//! Conflicts of an operator's plans with stored plans. A function fails only if memory runs out or the store
-//! fails.
+//! Conflicts of an operator's plans with stored plans. A plan's conflict is its first point, by leaf along
+//! the S2 curve, then altitude, then second, at which another live plan blocks it. A function fails only if
+//! memory runs out or the store fails. (The call of the law `conflict_among_slabs` does nothing: it makes the
+//! law known to the prover.)
+//!
+//! In contracts, `IsHonest` says that the storage is intact, the clause `reads` that a call only reads, and
+//! the clause `cause` that the store has counted an error that is returned as `Store`.
 
 ghost use Rattle.std.specs.Prelude.{◌≡◌, ◌≤◌, ◌^◌, IfOk, IfErr};
 ghost use Rattle.desk_store.specs.Changes.{OnlyReads, IsHonest, IsCounted};
@@ -24,7 +29,7 @@ const GAP_DIVISOR: u64 = 64;
 const MAX_GAP: u64 = 1 << 48;
 
 // The conflict that the operator's plan `id` would have with other live plans, its own and others', with this
-// area and priority; None if it would have none.
+// area and priority. `None` if it would have none. A stored plan with this id doesn't count.
 pub fn conflict_of<S: PlanStore>(
     alloc: Global,
     store: &mut S,
@@ -45,8 +50,9 @@ pub fn conflict_of<S: PlanStore>(
     first_among(alloc, store, permitted, operator, id, &mine, priority)
 }
 
-// The most leaves between two of `slabs` that count as close together: a gap of more is wide. `slabs` are a
-// plan's, and ascend.
+// How many leaves after the end of one of `slabs` another may begin and still count as close to it: a 64th of
+// the leaves from the first to the last, and at most a cell of level 6. `slabs` are a plan's, and ascend by
+// their first leaves. 0 for less than two.
 pub fn wide_gap(slabs: &[Slab]) -> u64
     ensures { result ≤ 2 ^ 48 }
 {

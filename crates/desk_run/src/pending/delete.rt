@@ -1,5 +1,8 @@
 //! Deletes, which close a plan. But for `NoSuchPlan`, a function fails only if memory runs out or the store
 //! fails.
+//!
+//! In contracts, `IsHonest` says that the storage is intact, the clause `reads` that a call only reads, and
+//! the clause `cause` that the store has counted an error that is returned as `Store`.
 
 ghost use Rattle.std.specs.Prelude.{◌≡◌, ◌≤◌, IsSome, IfErr};
 ghost use Rattle.desk_run.specs.{Calls.IsStoreFaultCounted, Calls.IsPreparedFor, Verdicts.delete_ruling};
@@ -13,8 +16,9 @@ use desk_rules::reply::{PutReply, Reply};
 use desk_rules::words::{PlanResult, PlanStatus};
 use desk_store::{Change, PlanStore};
 
-// Prepares the reply and the change that close an enrolled operator's plan, which may be closed already.
-// `NoSuchPlan` if it has no plan with this id.
+// Prepares the reply and the change that close an enrolled operator's plan. It may be closed already: then
+// the reply is the same, and the change leaves all as it is. `NoSuchPlan` if the operator has no plan with
+// this id.
 pub fn prepare_delete<S: PlanStore>(
     store: &mut S,
     operator: &Operator,

@@ -1,5 +1,10 @@
 //! The conflicts of all of an operator's plans, with each other and with other operators' plans, which are
-//! read once. A function fails only if memory runs out or the store fails.
+//! read once. A plan's conflict is its first point at which another live plan blocks it. A slab has the
+//! points of a range of leaves in one range of altitudes and one of seconds. A function fails only if memory
+//! runs out or the store fails.
+//!
+//! In contracts, `IsHonest` says that the storage is intact, the clause `reads` that a call only reads, and
+//! the clause `cause` that the store has counted an error that is returned as `Store`.
 
 ghost use Rattle.std.specs.Prelude.{◌≡◌, ◌≤◌, ℕ, Option, true, map, IfOk, IfErr, OnOk};
 ghost use Rattle.desk_store.specs.{Changes.OnlyReads, Changes.IsHonest, Changes.IsCounted, World.held, World.held_at};
@@ -18,7 +23,7 @@ use desk_store::{PlanStore, StoreFault, in_order};
 use std::alloc::{AllocError, Global};
 use volume4d::{Held, Meeting, Slab};
 
-// The plans of `rows`, in their order, each with the slabs that it holds.
+// The plans of `rows`, in their order, each with the slabs that it holds (a closed one holds none).
 pub fn own_plans(alloc: Global, rows: &[PlanRow]) -> Result<Vec<OwnPlan>, AllocError>
     ensures { IfOk result (λ plans. plans.items ≡ rows.now) }
 {
@@ -29,8 +34,9 @@ pub fn own_plans(alloc: Global, rows: &[PlanRow]) -> Result<Vec<OwnPlan>, AllocE
     Ok(plans)
 }
 
-// Slabs of other operators' live plans, each with its priority: all that have a point of one of `plans`, the
-// operator's own, and maybe some more.
+// Slabs of other operators' live plans, each with its priority. At each point that one of `plans`, the
+// operator's own, holds, their greatest priority is the greatest that other operators hold there. Elsewhere
+// they mean nothing.
 pub fn others_near<S: PlanStore>(
     alloc: Global,
     store: &mut S,
@@ -46,7 +52,8 @@ pub fn others_near<S: PlanStore>(
     store.held_by_others(operator, &extents)
 }
 
-// Slabs to query, that together have every point held by one of `plans`.
+// Slabs for which to ask the store: together they have every point that one of `plans` holds, and maybe
+// others.
 fn extents_of(alloc: Global, plans: &[OwnPlan]) -> Result<Vec<Slab>, AllocError>
     ensures { IfOk result (λ extents. HaveAll (some_hold plans.now) extents.items) }
 {
@@ -57,8 +64,8 @@ fn extents_of(alloc: Global, plans: &[OwnPlan]) -> Result<Vec<Slab>, AllocError>
     Ok(extents)
 }
 
-// All of an operator's `plans` as they are shown to it, each with its conflict; `others` are the slabs of
-// other operators, with all that have a point of these plans.
+// All of an operator's `plans` as they are shown to it, in their order, each with its conflict. `others` are
+// slabs of other operators, as `others_near` returns them.
 pub fn all_shown(
     alloc: Global,
     permitted: &Permitted,
@@ -75,7 +82,7 @@ pub fn all_shown(
     Ok(all)
 }
 
-// `plan`, one of `plans`, as it is shown, with its conflict; `others` as in `all_shown`.
+// `plan`, one of the operator's `plans`, as it is shown, with its conflict; `others` as in `all_shown`.
 fn shown_among(
     alloc: Global,
     permitted: &Permitted,
@@ -95,7 +102,8 @@ fn shown_among(
     })
 }
 
-// The conflict of `plan` with the operator's other `plans` and with `others`; a closed plan has none.
+// The conflict of `plan` with the operator's other `plans` and with `others` (as in `all_shown`); `None` if
+// it has none, or is closed.
 fn conflict_among(
     alloc: Global,
     permitted: &Permitted,
@@ -115,8 +123,8 @@ fn conflict_among(
     Ok(plan.conflict_with(&theirs))
 }
 
-// The slabs that may block `plan`, by their first leaves: those of the operator's other plans and of `others`
-// that have the priority `least` or a greater one and may share a point with `plan`.
+// The slabs that may block `plan`, ascending by first leaf: those of the operator's other plans and of
+// `others` that have the priority `least` or more and may share a point with `plan`.
 fn blocking_slabs(
     alloc: Global,
     plan: &OwnPlan,
@@ -134,8 +142,8 @@ fn blocking_slabs(
     Ok(in_order(theirs))
 }
 
-// Appends to `theirs` the slabs of the operator's `plans` but `mine` that have the priority `least` or a
-// greater one and may share a point with `mine`.
+// Appends to `theirs` the slabs of the operator's `plans` but `mine` that have the priority `least` or more
+// and may share a point with `mine`.
 fn push_own(
     theirs: &mut Vec<Held>,
     mine: &OwnPlan,

@@ -1,5 +1,6 @@
-//! Slabs that may share a point with those of a plan. Leaves are numbered along the S2 curve: a `position` is
-//! the number of one. A function fails only if memory runs out.
+//! Slabs that may share a point with those of a plan. A slab has the points of a range of leaves in one range
+//! of altitudes and one of seconds. Leaves are numbered along the S2 curve: a `position` is the number of
+//! one. A function fails only if memory runs out.
 
 ghost use Rattle.std.specs.Prelude.{◌≡◌, None, true, false, nat_le, OnOk};
 ghost use Rattle.std.specs.List.{list_any};
@@ -10,8 +11,9 @@ ghost use Rattle.desk_run.specs.HeldAmong.{AddLevelAt, AreAfter, AreLeft, HaveAl
 use std::alloc::AllocError;
 use volume4d::{Held, Slab};
 
-// Appends to `theirs` those of `slabs`, with `priority`, that may share a point with one of `mine`. `mine`
-// ascend, and all their points lie in `bounds` and in one of `parts`. It is fast if `slabs` ascend, too.
+// Appends to `theirs` those of `slabs`, with `priority`, that may share a point with one of `mine`. None that
+// does is left out. `mine`, a plan's slabs, ascend by their first leaves. All their points lie in `bounds`,
+// and each in one of `parts`, the bounds of a volume. It is fast if `slabs` ascend, too.
 pub fn push_slabs(
     theirs: &mut Vec<Held>,
     mine: &[Slab],
@@ -41,8 +43,8 @@ pub fn push_slabs(
     Ok(())
 }
 
-// Appends to `theirs` those of `helds` that have the priority `least` or a greater one and may share a point
-// with one of `mine`. `mine`, `bounds` and `parts` are as in `push_slabs`.
+// Appends to `theirs` those of `helds` that have the priority `least` or more and may share a point with one
+// of `mine`. None that does is left out. `mine`, `bounds` and `parts` are as in `push_slabs`.
 pub fn push_helds(
     theirs: &mut Vec<Held>,
     mine: &[Slab],
@@ -69,8 +71,9 @@ pub fn push_helds(
     Ok(())
 }
 
-// Whether `held` has the priority `least` or a greater one, and may share a point with one of `left`, the
-// slabs that don't end before it. `bounds` and `parts` have all points of these.
+// Whether `held` has the priority `least` or more, and may share a point with one of `left`, the slabs of a
+// plan that don't end before it. `bounds` and `parts` have all points of these. False is certain, true is
+// not.
 fn is_wanted(held: &Held, least: u32, left: &[Slab], bounds: &Slab, parts: &[Slab]) -> bool
     requires { Ascend (λ s. s) left.now }
     ensures high_enough { result ≡ true → nat_le least held.now.priority ≡ true }
@@ -81,8 +84,9 @@ fn is_wanted(held: &Held, least: u32, left: &[Slab], bounds: &Slab, parts: &[Sla
     held.priority >= least && may_share(left, bounds, parts, &held.slab)
 }
 
-// The slabs of `mine` from the first one on that doesn't end before `position`. `left` is the result for the
-// position `before`: the search goes on there, or begins anew if `position` is less.
+// The slabs of `mine` from the first one on that doesn't end before `position`, and maybe some before it.
+// `left` is the result for the position `before`: the search goes on there, or begins anew with all of `mine`
+// if `position` is less.
 fn remaining_at<'a>(mine: &'a [Slab], left: &'a [Slab], before: u64, position: u64) -> &'a [Slab]
     requires order { Ascend (λ s. s) mine.now }
     requires left_order { Ascend (λ s. s) left.now }
@@ -97,7 +101,7 @@ fn remaining_at<'a>(mine: &'a [Slab], left: &'a [Slab], before: u64, position: u
     }
 }
 
-// The rest of `slabs` without the first ones that end before `position`.
+// The rest of `slabs` from the first one on that doesn't end before `position`; none if all do.
 fn skip_before(slabs: &[Slab], position: u64) -> &[Slab]
     requires { Ascend (λ s. s) slabs.now }
     ensures order { Ascend (λ s. s) result.now }
@@ -113,7 +117,7 @@ fn skip_before(slabs: &[Slab], position: u64) -> &[Slab]
     left
 }
 
-// Whether `slab` may share a point with one of `left`, which ascend and don't end before it. `bounds` and
+// Whether `slab` may share a point with one of `left`, which ascend and don't end before `slab`. `bounds` and
 // `parts` have all points of `left`. False is certain, true is not.
 fn may_share(left: &[Slab], bounds: &Slab, parts: &[Slab], slab: &Slab) -> bool
     requires { Ascend (λ s. s) left.now }
@@ -129,14 +133,15 @@ fn may_share(left: &[Slab], bounds: &Slab, parts: &[Slab], slab: &Slab) -> bool
     overlaps_one(slab, parts)
 }
 
-// Whether `slab` overlaps one of `parts`.
+// Whether `slab` overlaps one of `parts`; false if there are none.
 fn overlaps_one(slab: &Slab, parts: &[Slab]) -> bool
     ensures { result ≡ list_any (overlap slab.now) parts.now }
 {
     parts.iter().any(|part| slab.overlaps(part))
 }
 
-// Whether the first of `slabs`, which ascend, begins at `position` or before; false if there are none.
+// Whether the first of `slabs`, which ascend, begins at `position` or before. If false, all begin after it;
+// also false if there are none.
 fn begins_by(slabs: &[Slab], position: u64) -> bool
     requires { Ascend (λ s. s) slabs.now }
     ensures { result ≡ false → AreAfter position slabs.now }

@@ -1,4 +1,6 @@
-//! Plans of an operator, with the slabs that they hold. A function fails only if memory runs out.
+//! Plans of an operator, with the slabs that they hold. A slab has the points of a range of leaves (numbered
+//! along the S2 curve) in one range of altitudes and one of seconds. A function fails only if memory runs
+//! out.
 
 ghost use Rattle.std.specs.Prelude.{◌≡◌, ◌&&◌, ℕ, List, Option, true, not, nat_le, All, IfOk, OnOk};
 ghost use Rattle.volume4d.specs.{Slab.IsFilled, Slab.slabs_have, Slab.top_held, Volume.Point, Volume.area_has, Sweep.Ascend};
@@ -37,7 +39,7 @@ impl Model for OwnPlan {
 }
 
 impl OwnPlan {
-    // The plan of `row`, with its slabs and bounds: none if it is closed.
+    // The plan of `row`, with its slabs and bounds. A closed plan has none.
     pub fn try_new(alloc: Global, row: PlanRow) -> Result<OwnPlan, AllocError>
         ensures { IfOk result (λ plan. plan ≡ row) }
     {
@@ -60,14 +62,15 @@ impl OwnPlan {
         })
     }
 
-    // The plan's row.
+    // The plan as it is stored.
     pub fn row(&self) -> &PlanRow
         ensures { result.now ≡ self.now }
     {
         &self.row
     }
 
-    // Appends slabs to query to `extents`, that together have every point that the plan holds.
+    // Appends to `extents` slabs for which to ask the store: together they have every point that the plan
+    // holds, and maybe others.
     pub fn push_extents(&self, extents: &mut Vec<Slab>) -> Result<(), AllocError>
         ensures kept { OnOk result (Keep extents.old.items extents.new.items) }
         ensures all { OnOk result (HaveAll (row_holds self.now) extents.new.items) }
@@ -75,8 +78,8 @@ impl OwnPlan {
         push_clusters(extents, &self.slabs)
     }
 
-    // Appends to `theirs` those of `others`, other operators' slabs, that have the priority `least` or a
-    // greater one and may share a point with the plan.
+    // Appends to `theirs` those of `others`, other operators' slabs, that have the priority `least` or more
+    // and may share a point with the plan.
     pub fn push_others(
         &self,
         theirs: &mut Vec<Held>,
@@ -96,8 +99,9 @@ impl OwnPlan {
         )
     }
 
-    // Appends to `theirs` those of this plan's slabs that may block `mine`, another plan of the operator:
-    // none if this is the same plan, has a priority below `least`, or is out of its bounds.
+    // Appends to `theirs` those of this plan's slabs that may block `mine`, another plan of the operator.
+    // Nothing is appended if this plan has the id of `mine`, has a priority below `least`, or lies outside
+    // the bounds of `mine`.
     pub fn push_blocking(
         &self,
         theirs: &mut Vec<Held>,
@@ -123,9 +127,9 @@ impl OwnPlan {
         )
     }
 
-    // The conflict of this plan, a live one, with `theirs`, slabs of other plans: at each point of this plan
-    // their greatest priority is the greatest that other plans hold there, or none if that is too low to
-    // block it.
+    // The conflict of this plan, a live one, with `theirs`; `None` if it has none. `theirs` are slabs of
+    // other plans: at each point of this plan their greatest priority is the greatest that other plans hold
+    // there, or none if that is too low to block this plan.
     pub fn conflict_with(&self, theirs: &[Held]) -> Option<Meeting>
         ensures { (permitted : List ℕ) (levels : Point → Option ℕ) → is_live self.now.usage ≡ true
             → HaveLevelAt (row_holds self.now) theirs.now
@@ -136,7 +140,7 @@ impl OwnPlan {
     }
 }
 
-// The bounds of each volume of `area`, in their order: the smallest slab that has all points of the volume.
+// The bounds of each volume of `area`, in their order: the smallest slabs that have all points of a volume.
 fn parts_of(alloc: Global, area: &Area) -> Result<Vec<Slab>, AllocError>
     ensures { IfOk result (λ parts. HaveAll (area_has area.now) parts.items) }
 {
@@ -147,15 +151,15 @@ fn parts_of(alloc: Global, area: &Area) -> Result<Vec<Slab>, AllocError>
     Ok(parts)
 }
 
-// Whether `row` has another id than `id`, and the priority `least` or a greater one.
+// Whether `row` is another plan than that with the id `id`, and has the priority `least` or more.
 fn may_block(row: &PlanRow, id: &PlanId, least: u32) -> bool
     ensures { result ≡ (not (has_id id.now row.now) && nat_le least row.now.priority) }
 {
     id.cmp(&row.id).is_ne() && least <= row.priority
 }
 
-// Appends to `extents` the bounds of each cluster of `slabs`, which ascend. Clusters are separated by gaps of
-// more leaves than `wide_gap`.
+// Appends to `extents` the bounds of each cluster of `slabs`, which ascend by their first leaves. Clusters
+// are separated by gaps of at least `wide_gap` leaves.
 fn push_clusters(extents: &mut Vec<Slab>, slabs: &[Slab]) -> Result<(), AllocError>
     requires filled { All IsFilled slabs.now }
     requires order { Ascend (λ s. s) slabs.now }

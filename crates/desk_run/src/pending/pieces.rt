@@ -1,5 +1,10 @@
 //! Pieces of a plan: a plan that takes many leaves of the S2 curve is compared with stored plans piece by
-//! piece, along the curve. A function fails only if memory runs out or the store fails.
+//! piece, along the curve. A slab has the points of a range of leaves in one range of altitudes and one of
+//! seconds; a piece is the slab round a plan, restricted to some leaves. A function fails only if memory runs
+//! out or the store fails.
+//!
+//! In contracts, `IsHonest` says that the storage is intact, the clause `reads` that a call only reads, and
+//! the clause `cause` that the store has counted an error that is returned as `Store`.
 
 ghost use Rattle.std.specs.Prelude.{◌+◌, ◌<◌, ◌*◌, ◌^◌, IfOk, IfErr};
 ghost use Rattle.desk_store.specs.Changes.{OnlyReads, IsHonest, IsCounted};
@@ -23,8 +28,8 @@ const FIRST_LENGTH: u64 = 1 << 40;
 // How many times as long each piece is as the one before. All six faces take at most five pieces.
 const GROWTH: u64 = 64;
 
-// The first blocked point among `slabs`, one or more, those of the operator's plan `id` with this priority;
-// None if none is blocked. The store is queried piece by piece, so that nothing is read after the piece with
+// The first blocked point among `slabs`, one or more: those of the operator's plan `id` of this priority.
+// `None` if none is blocked. The store is asked piece by piece, so that nothing is read after the piece with
 // that point. Pieces grow, so that a plan that isn't blocked takes only a few queries.
 pub fn first_among<S: PlanStore>(
     alloc: Global,
@@ -60,7 +65,7 @@ pub fn first_among<S: PlanStore>(
 }
 
 // The piece of `whole`, the bounds of a plan, that follows `piece`: it ends `length` leaves after its first
-// one, or with `whole`. There is one, since `piece` ends before `whole`.
+// one, or with `whole` if that is first. There is such a piece, since `piece` ends before `whole`.
 fn next_piece(whole: &Slab, piece: &Slab, length: u64) -> Slab
     requires { piece.now.last < whole.now.last }
     ensures { IsPiece whole.now (piece.now.last + 1) result }
@@ -68,8 +73,8 @@ fn next_piece(whole: &Slab, piece: &Slab, length: u64) -> Slab
     piece_from(whole, piece.last + 1, length)
 }
 
-// The slab `whole`, restricted to the leaves from `position` to `length` leaves after it. A position is the
-// number of a leaf along the S2 curve, of which there are 6 * 2^60.
+// The slab `whole`, restricted to the leaves from `position` to `length` leaves after it, or to its own last
+// leaf if that is first. A position is the number of a leaf along the S2 curve, of which there are 6 * 2^60.
 fn piece_from(whole: &Slab, position: u64, length: u64) -> Slab
     requires { position < 6 * 2 ^ 60 }
     ensures { IsPiece whole.now position result }
@@ -84,8 +89,8 @@ fn piece_from(whole: &Slab, position: u64, length: u64) -> Slab
     }
 }
 
-// The first point of `slabs` at the leaves of `piece` where a stored plan blocks the operator's plan `id`
-// with this priority; None if there is none. The store may return slabs that extend beyond the piece, so
+// The first point of `slabs` at the leaves of `piece` where another live plan blocks the operator's plan `id`
+// of this priority; `None` if there is none. The store may return slabs that extend beyond the piece, so
 // these are cut to it.
 fn first_at<S: PlanStore>(
     alloc: Global,
@@ -108,8 +113,8 @@ fn first_at<S: PlanStore>(
     Ok(first_conflict(slabs, &theirs))
 }
 
-// Cuts each held slab to `piece`, and sorts them by their first leaves, so that one pass can compare them
-// with a plan's: a store may return them plan by plan.
+// Cuts each held slab to the leaves of `piece`, and sorts the slabs by their first leaves, so that one pass
+// can compare them with a plan's. (A store may return them plan by plan.)
 fn cut_in_order(helds: &mut [Held], piece: &Slab)
     ensures { AreCut piece.now helds.old helds.new }
 {

@@ -1,4 +1,9 @@
-//! Requests to plan, decided over a store. A function fails only if memory runs out or the store fails.
+//! Requests to plan, decided over a store. A verdict has the result of a request, and its effect on the
+//! stored plan. A conflict is the first point of a plan at which another live plan blocks it. A function
+//! fails only if memory runs out or the store fails.
+//!
+//! In contracts, `IsHonest` says that the storage is intact, the clause `reads` that a call only reads, and
+//! the clause `cause` that the store has counted an error that is returned as `Store`.
 
 ghost use Rattle.std.specs.Prelude.{◌≡◌, ◌+◌, ◌≤◌, length, Option, Some, None, true, false, cond, IfOk, IfErr};
 ghost use Rattle.desk_run.specs.{Calls.IsStoreFaultCounted, Calls.IsPreparedFor, Calls.change_after, Verdicts.put_ruling, Verdicts.put_verdict_in, Verdicts.excess_asked, Verdicts.row_asked, Verdicts.conflict_in};
@@ -65,8 +70,8 @@ fn reply_of(verdict: &Verdict) -> PutReply
     }
 }
 
-// The verdict on `put`, a request to plan at `moment` by the operator, which is enrolled with `ceiling`. The
-// store is queried for conflicts last, and only if the verdict depends on one.
+// The verdict on `put`, a request to plan at `moment` (a Unix second) by the operator, which is enrolled with
+// `ceiling`. The store is asked for conflicts last, and only if the verdict depends on one.
 fn verdict_on<S: PlanStore>(
     alloc: Global,
     store: &mut S,
@@ -94,8 +99,9 @@ fn verdict_on<S: PlanStore>(
     Ok(decide_under(put, moment, stored, &standing, meeting))
 }
 
-// Whether the verdict on `put` depends on a conflict: nothing else refuses it (the verdict has no note), and
-// the state table has it checked for conflicts. `stored` are the states of the stored plan, if there is one.
+// Whether the verdict on `put` depends on a conflict: nothing else refuses the request (the verdict has no
+// note), and the state table has it checked for conflicts. `stored` are the states of the operator's plan
+// with this id, or `None` if there is none.
 #[tactic(auto, using(crate::proofs::OutcomeLemmas::settled))]
 fn depends_on_conflict(
     put: &PutCall,
@@ -114,15 +120,15 @@ fn depends_on_conflict(
     verdict.note.is_none() && is_checked(transition_from(stored, put))
 }
 
-// Whether a conflict may refuse a request for which the state table has this step.
+// Whether a conflict may refuse a request for which the state table has this step: `Check` alone.
 fn is_checked(step: Step) -> bool
     ensures { result ≡ is_check step }
 {
     matches!(step, Step::Check(_))
 }
 
-// The conflict of the requested area, or `None` if it has none; also `None`, without a query, if it isn't
-// `needed`.
+// The conflict of the requested area, or `None` if it has none. If it isn't `needed`, the store is not asked,
+// and the result is `None`.
 fn conflict_if<S: PlanStore>(
     alloc: Global,
     needed: bool,
@@ -151,8 +157,8 @@ fn conflict_if<S: PlanStore>(
     )
 }
 
-// The states of the operator's plan with this id, if there is one, and how many plans the operator has. The
-// number is only needed, and queried, if there is no such plan; otherwise 0 is in its place.
+// The states of the operator's plan with this id, or `None` if there is none, and how many plans the operator
+// has. The number is only needed, and read, if there is no such plan; otherwise 0 is in its place.
 fn states_and_count<S: PlanStore>(
     store: &mut S,
     operator: &Operator,
@@ -173,7 +179,7 @@ fn states_and_count<S: PlanStore>(
 }
 
 // Which limits, on spans and on cells, the operator's plans would exceed with the requested one in place of
-// the stored one. The store is queried only if there is a limit.
+// the stored one. If neither has a limit, the store is not asked.
 fn excess_with<S: PlanStore>(
     store: &mut S,
     terms: &Terms,
@@ -195,7 +201,7 @@ fn excess_with<S: PlanStore>(
     ))
 }
 
-// The change to the store that `effect`, the effect of the request `put`, is; `None` if it changes nothing.
+// The change to the store by which the request `put` has this effect; `None` if the effect is `Nothing`.
 fn change_for(
     effect: Effect,
     operator: &Operator,

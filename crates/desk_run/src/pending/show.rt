@@ -1,5 +1,9 @@
-//! Plans as they are shown to their operator. Where a comment names no error, a function fails only if memory
-//! runs out or the store fails.
+//! Plans as they are shown to their operator, with their conflicts. A plan's conflict is its first point at
+//! which another live plan blocks it. Where a comment names no error, a function fails only if memory runs
+//! out or the store fails.
+//!
+//! In contracts, `IsHonest` says that the storage is intact, the clause `reads` that a call only reads, and
+//! the clause `cause` that the store has counted an error that is returned as `Store`.
 
 ghost use Rattle.std.specs.Prelude.{◌≡◌, ◌≤◌, map, IfOk, IfErr};
 ghost use Rattle.desk_run.specs.{Calls.IsStoreFaultCounted, Calls.IsPreparedFor, Verdicts.conflict_shown_in, Verdicts.list_ruling, Verdicts.show_ruling, Verdicts.shown_in};
@@ -20,7 +24,8 @@ use desk_store::{PlanStore, StoreFault};
 use std::alloc::Global;
 use volume4d::Meeting;
 
-// Prepares the reply that lists an enrolled operator's plans, closed ones too, each with its conflict.
+// Prepares the reply that lists an enrolled operator's plans, closed ones too, each with its conflict. There
+// is no change.
 pub fn prepare_list<S: PlanStore>(
     alloc: Global,
     store: &mut S,
@@ -40,7 +45,7 @@ pub fn prepare_list<S: PlanStore>(
     })
 }
 
-// The operator's plans as they are shown, ascending by id.
+// The operator's plans as they are shown to it, each with its status and conflict, ascending by id.
 fn own_shown<S: PlanStore>(
     alloc: Global,
     store: &mut S,
@@ -58,7 +63,7 @@ fn own_shown<S: PlanStore>(
     Ok(all_shown(alloc, permitted, &plans, &others)?)
 }
 
-// The operator's plans with the slabs that they hold, ascending by id.
+// The operator's plans, ascending by id, each with the slabs that it holds (a closed one holds none).
 fn own_listed<S: PlanStore>(
     alloc: Global,
     store: &mut S,
@@ -73,7 +78,8 @@ fn own_listed<S: PlanStore>(
     Ok(own_plans(alloc, &rows)?)
 }
 
-// Prepares the reply that shows an enrolled operator's plan; `NoSuchPlan` if it has none with this id.
+// Prepares the reply that shows an enrolled operator's plan, with its conflict. There is no change.
+// `NoSuchPlan` if the operator has no plan with this id.
 pub fn prepare_show<S: PlanStore>(
     alloc: Global,
     store: &mut S,
@@ -98,7 +104,7 @@ pub fn prepare_show<S: PlanStore>(
     })
 }
 
-// The operator's plan `row` as it is shown, with its conflict.
+// The operator's stored plan `row` as it is shown, with its status and conflict.
 fn shown<S: PlanStore>(
     alloc: Global,
     store: &mut S,
@@ -119,7 +125,8 @@ fn shown<S: PlanStore>(
     })
 }
 
-// The conflict of the operator's plan `row` with other plans, its own and others'; a closed plan has none.
+// The conflict of the operator's stored plan `row` with other plans, its own and others'; `None` if it has
+// none, or is closed.
 fn shown_conflict<S: PlanStore>(
     alloc: Global,
     store: &mut S,

@@ -14,7 +14,8 @@ use volume4d::Slab;
 // distance. A plan has at most 32 volumes, so a piece has at most 96 extents.
 const SOFT_LIMIT: usize = 64;
 
-// Extents that together have all points of `slabs` at the leaves of `piece`, and may have others.
+// Extents that together have all points of `slabs` at the leaves of `piece`, and may have others. `slabs`
+// ascend by their first leaves.
 pub fn extents_in(alloc: Global, slabs: &[Slab], piece: &Slab) -> Result<Vec<Slab>, AllocError>
     ensures { IfOk result (λ extents. HavePart (slabs_have slabs.now) piece.now extents.items) }
 {
@@ -26,8 +27,8 @@ pub fn extents_in(alloc: Global, slabs: &[Slab], piece: &Slab) -> Result<Vec<Sla
     Ok(extents)
 }
 
-// Adds the points of `slab` at the leaves of `piece` to `extents`. `gap` is the most leaves between two slabs
-// that are joined.
+// Adds the points of `slab` at the leaves of `piece` to `extents`; nothing if it has no such leaves. Slabs
+// are joined if the next begins at most `gap` leaves after the end of the one before.
 fn add_part(extents: &mut Vec<Slab>, slab: &Slab, piece: &Slab, gap: u64) -> Result<(), AllocError>
     ensures kept { OnOk result (Keep extents.old.items extents.new.items) }
     ensures has { OnOk result (HavePart (slab_has slab.now) piece.now extents.new.items) }
@@ -39,7 +40,8 @@ fn add_part(extents: &mut Vec<Slab>, slab: &Slab, piece: &Slab, gap: u64) -> Res
     add(extents, &part, gap)
 }
 
-// Adds the points of `slab` to `extents`: widens one that `slab` may be joined to, or else adds one.
+// Adds the points of `slab` to `extents`: widens one that `slab` may be joined to, or else adds `slab`. `gap`
+// is as in `add_part`.
 fn add(extents: &mut Vec<Slab>, slab: &Slab, gap: u64) -> Result<(), AllocError>
     ensures kept { OnOk result (Keep extents.old.items extents.new.items) }
     ensures has { OnOk result (HaveAll (slab_has slab.now) extents.new.items) }
@@ -51,8 +53,8 @@ fn add(extents: &mut Vec<Slab>, slab: &Slab, gap: u64) -> Result<(), AllocError>
     Ok(())
 }
 
-// The index of the last extent that `slab` may be joined to, if there is one. `gap` is ignored once there are
-// `SOFT_LIMIT` extents.
+// The index, from 0, of the last extent that `slab` may be joined to; `None` if there is none. `gap` (as in
+// `add_part`) is ignored once there are `SOFT_LIMIT` extents.
 fn find_joinable(extents: &[Slab], slab: &Slab, gap: u64) -> Option<usize>
     ensures { IfSome result (λ place. place < length extents.now) }
 {
@@ -67,8 +69,8 @@ fn find_joinable(extents: &[Slab], slab: &Slab, gap: u64) -> Option<usize>
 }
 
 // Whether `slab` has the altitudes and seconds of `extent`, and begins at most `gap` leaves after its end.
-// Slabs come ascending by their first leaves, so none begins before `extent`. For the proof any join is
-// right; this only matters for speed.
+// Slabs come ascending by their first leaves, so none begins before `extent`. The points are right whatever
+// is joined; what is joined matters for speed alone.
 fn may_join(extent: &Slab, slab: &Slab, gap: u64) -> bool
     ensures { IsTrue result → slab.now.first ≤ extent.now.last + gap }
 {
@@ -77,7 +79,7 @@ fn may_join(extent: &Slab, slab: &Slab, gap: u64) -> bool
             == (slab.lower, slab.upper, slab.start, slab.end)
 }
 
-// Widens the extent at the index `place`, so that it has the points of `slab`, too.
+// Widens the extent at the index `place`, from 0, so that it has the points of `slab`, too.
 fn widen(extents: &mut [Slab], place: usize, slab: &Slab)
     requires { place < length extents.old }
     ensures kept { Keep extents.old extents.new }
