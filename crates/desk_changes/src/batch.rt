@@ -1,4 +1,7 @@
 //! Several rows added, or several plans removed, one after the other.
+//!
+//! Each row has a rowid, an integer: a new row gets the next one above the greatest in its table. The last is
+//! 2^63 - 1, and then the table takes no more rows. So contracts count the rowids that a change uses.
 
 ghost use Rattle.std.specs.Prelude.{◌≡◌, ⊤, OnOk, IsTrue, length, map};
 ghost use Rattle.std.specs.String.{string_bytes};
@@ -11,8 +14,8 @@ use crate::execute::execute;
 use crate::writing::{SpanRecord, VolumeRecord};
 use sqlite::{Alter, Error, Transaction};
 
-/// Adds `rows` to `volume2`, in their order, within a transaction. Each uses one rowid. After an error, what
-/// was committed stays.
+/// Adds `rows` to `volume2`, in their order, within a transaction. Each uses one rowid. Each has to have a
+/// new key (`operator`, `id`, `place`) and a plan that is stored. If it fails, nothing is committed.
 pub fn insert_volumes<S: Alter>(
     tx: &mut Transaction<'_, S>,
     rows: &[VolumeRecord<'_>],
@@ -30,8 +33,8 @@ pub fn insert_volumes<S: Alter>(
     Ok(())
 }
 
-/// Adds `rows` to `span2`, in their order, within a transaction. Each uses one rowid. After an error, what
-/// was committed stays.
+/// Adds `rows` to `span2`, in their order, within a transaction. Each uses one rowid. Each has to have a new
+/// key (`operator`, `id`, `place`, `first`) and a plan that is stored. If it fails, nothing is committed.
 pub fn insert_spans<S: Alter>(
     tx: &mut Transaction<'_, S>,
     rows: &[SpanRecord<'_>],
@@ -49,7 +52,11 @@ pub fn insert_spans<S: Alter>(
 }
 
 /// Removes the operator's plans `ids` with their volumes and spans, within a transaction. Ids that are not
-/// stored are passed over.
+/// stored are passed over. If it fails, nothing is committed.
+///
+/// # Errors
+///
+/// Those of SQLite if memory runs out, the disk fails or the connection's step limit is met.
 pub fn remove_plans<S: Alter>(
     tx: &mut Transaction<'_, S>,
     operator: &str,
@@ -66,7 +73,8 @@ pub fn remove_plans<S: Alter>(
     ensures cause { HasRefusal S.Store tx.old.conn.now tx.new.conn.now result }
     ensures remembered { Remembers S.Store tx.old.conn.now tx.new.conn.now }
 {
-    // This call fails on a connection that an error has shut. Otherwise empty `ids` would succeed there.
+    // If an earlier failure of the disk has closed the connection, this call fails. Else empty `ids` would
+    // succeed there.
     tx.prepare(RowChange::RemovePlan { operator, id: "" }.text())?;
     'ids: for id in ids {
         remove_plan_by_id(tx, operator, id)?;
@@ -74,7 +82,8 @@ pub fn remove_plans<S: Alter>(
     Ok(())
 }
 
-// Removes the operator's plan `id`, if it is stored, with its volumes and spans.
+// Removes the operator's plan `id`, if it is stored, with its volumes and spans. If it fails, nothing is
+// committed.
 fn remove_plan_by_id<S: Alter>(
     tx: &mut Transaction<'_, S>,
     operator: &str,

@@ -1,4 +1,6 @@
-//! The statements that change rows.
+//! The statements that change rows, as SQL, and the values of their parameters.
+//!
+//! Version 1 of the schema has volumes and spans in `volume` and `span`, version 2 in `volume2` and `span2`.
 
 ghost use Rattle.std.specs.Prelude.{◌≡◌, ℕ, List};
 ghost use Rattle.desk_changes.specs.declared.writing.{PlanRecord.PlanRecord as PlanRow, SpanRecord.SpanRecord as SpanRow, VolumeRecord.VolumeRecord as VolumeRow};
@@ -22,7 +24,7 @@ pub(crate) enum RowChange<'a> {
     AddVolume(VolumeRecord<'a>),
     /// Adds a row to `span2`.
     AddSpan(SpanRecord<'a>),
-    /// Sets the ceiling of the operator `name`, if there is one.
+    /// Sets the ceiling of the operator `name`, if it has a row.
     SetCeiling {
         name: &'a str,
         ceiling: u32,
@@ -40,14 +42,14 @@ pub(crate) enum RowChange<'a> {
         operator: &'a str,
         id: &'a str,
     },
-    /// Removes the rows of `span2` of the operator's plan `id`.
+    /// Removes the rows of `span2` of the operator's plan `id`. The plan and its volumes stay.
     RemoveSpans {
         operator: &'a str,
         id: &'a str,
     },
-    /// Removes all rows of `volume`, which version 1 of the schema has.
+    /// Removes all rows of `volume`.
     EmptyOldVolumes,
-    /// Removes all rows of `span`, which version 1 of the schema has.
+    /// Removes all rows of `span`.
     EmptyOldSpans,
 }
 
@@ -100,21 +102,21 @@ impl<'a> RowChange<'a> {
     }
 }
 
-// The statement that adds a row to `operator`.
+// The statement that adds a row to `operator`: the name `?1` and the ceiling `?2`.
 fn add_operator_text() -> &'static str
     ensures { (name : List ℕ) (ceiling : ℕ) → DoesAddOperator name ceiling result.now }
 {
     "INSERT INTO operator (name, ceiling) VALUES (?1, ?2)"
 }
 
-// The statement that adds a row to `plan`.
+// The statement that adds a row to `plan`. The values of its columns are `?1` to `?5`, in their order.
 fn add_plan_text() -> &'static str
     ensures { (row : PlanRow) → IsTextOf (RowChange.AddPlan row) result.now }
 {
     "INSERT INTO plan (operator, id, priority, usage, aircraft) VALUES (?1, ?2, ?3, ?4, ?5)"
 }
 
-// The statement that adds a row to `volume2`.
+// The statement that adds a row to `volume2`. The values of its columns are `?1` to `?9`, in their order.
 fn add_volume_text() -> &'static str
     ensures { (row : VolumeRow) → IsTextOf (RowChange.AddVolume row) result.now }
 {
@@ -122,7 +124,7 @@ fn add_volume_text() -> &'static str
      VALUES (?1, ?2, ?3, ?4, ?5, ?6, ?7, ?8, ?9)"
 }
 
-// The statement that adds a row to `span2`.
+// The statement that adds a row to `span2`. The values of its columns are `?1` to `?10`, in their order.
 fn add_span_text() -> &'static str
     ensures { (row : SpanRow) → IsTextOf (RowChange.AddSpan row) result.now }
 {
@@ -130,14 +132,16 @@ fn add_span_text() -> &'static str
      VALUES (?1, ?2, ?3, ?4, ?5, ?6, ?7, ?8, ?9, ?10)"
 }
 
-// The statement that sets the ceiling (`?2`) of an operator (`?1`). It changes no row if there is none.
+// The statement that sets the ceiling (`?2`) of an operator (`?1`). If the operator has no row, it changes
+// none.
 fn set_ceiling_text() -> &'static str
     ensures { (name : List ℕ) (ceiling : ℕ) → DoesSetCeiling name ceiling result.now }
 {
     "UPDATE operator SET ceiling = ?2 WHERE name = ?1"
 }
 
-// The statement that gives a plan the usage Closed (2), a priority (`?3`) and a state of the aircraft (`?4`).
+// The statement that gives a plan (`?2`) of an operator (`?1`) the usage Closed (2), a priority (`?3`) and a
+// state of the aircraft (`?4`). If the plan isn't stored, it changes no row.
 fn set_closed_text() -> &'static str
     ensures { (operator id : List ℕ) (priority aircraft : ℕ) →
         DoesSetClosed operator id priority aircraft result.now }
@@ -145,21 +149,23 @@ fn set_closed_text() -> &'static str
     "UPDATE plan SET priority = ?3, usage = 2, aircraft = ?4 WHERE operator = ?1 AND id = ?2"
 }
 
-// The statement that removes a plan. Its volumes and spans go with it, by the foreign keys.
+// The statement that removes a plan (`?2`) of an operator (`?1`), if it is stored. The rows of its volumes
+// and spans go with it, by the foreign keys (ON DELETE CASCADE).
 fn remove_plan_text() -> &'static str
     ensures { (operator id : List ℕ) → DoesRemovePlan operator id result.now }
 {
     "DELETE FROM plan WHERE operator = ?1 AND id = ?2"
 }
 
-// The statement that removes the rows of `span2` of a plan.
+// The statement that removes the rows of `span2` of a plan (`?2`) of an operator (`?1`). The plan and its
+// volumes stay.
 fn remove_spans_text() -> &'static str
     ensures { (operator id : List ℕ) → DoesRemoveSpans operator id result.now }
 {
     "DELETE FROM span2 WHERE operator = ?1 AND id = ?2"
 }
 
-// The statement that removes all rows of `volume`, a table of version 1 of the schema.
+// The statement that removes all rows of `volume`, a table of version 1 of the schema. The table stays.
 #[tactic(auto, using(crate::proofs::ChangeTexts::empty_old_volumes_does))]
 fn empty_old_volumes_text() -> &'static str
     ensures { IsTextOf RowChange.EmptyOldVolumes result.now }
@@ -167,7 +173,7 @@ fn empty_old_volumes_text() -> &'static str
     "DELETE FROM volume"
 }
 
-// The statement that removes all rows of `span`, a table of version 1 of the schema.
+// The statement that removes all rows of `span`, a table of version 1 of the schema. The table stays.
 #[tactic(auto, using(crate::proofs::ChangeTexts::empty_old_spans_does))]
 fn empty_old_spans_text() -> &'static str
     ensures { IsTextOf RowChange.EmptyOldSpans result.now }

@@ -1,4 +1,7 @@
 //! Statements that empty the tables of version 1 of the schema.
+//!
+//! Version 1 of the schema has volumes and spans in `volume` and `span`, version 2 in `volume2` and `span2`.
+//! A migration from version 1 writes the rows of version 2 and then empties the tables of version 1.
 
 ghost use Rattle.std.specs.Prelude.{◌≡◌, ⊤};
 ghost use Rattle.desk_sql.specs.{Rows.RemovesOldVolumes, Rows.RemovesOldSpans, Rows.IsDesk, Queries.IsChanged, Effects.Holds};
@@ -8,7 +11,7 @@ use crate::change::RowChange;
 use crate::execute::execute;
 use sqlite::{Alter, Error, Transaction};
 
-/// Removes all rows of `volume`, a table of version 1 of the schema, within a transaction. The table stays.
+/// Removes all rows of `volume`, within a transaction. The table stays. If it fails, nothing is committed.
 pub fn empty_old_volumes<S: Alter>(tx: &mut Transaction<'_, S>) -> Result<(), Error>
     requires desk { Holds S.Store tx.old.conn.now IsDesk }
     ensures same_reference { tx.new.conn.ghost_name ≡ tx.old.conn.ghost_name }
@@ -18,7 +21,7 @@ pub fn empty_old_volumes<S: Alter>(tx: &mut Transaction<'_, S>) -> Result<(), Er
     execute(tx, RowChange::EmptyOldVolumes)
 }
 
-/// Removes all rows of `span`, a table of version 1 of the schema, within a transaction. The table stays.
+/// Removes all rows of `span`, within a transaction. The table stays. If it fails, nothing is committed.
 pub fn empty_old_spans<S: Alter>(tx: &mut Transaction<'_, S>) -> Result<(), Error>
     requires desk { Holds S.Store tx.old.conn.now IsDesk }
     ensures same_reference { tx.new.conn.ghost_name ≡ tx.old.conn.ghost_name }

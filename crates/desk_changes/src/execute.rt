@@ -9,7 +9,8 @@ use crate::change::RowChange;
 use desk_sql::run;
 use sqlite::{Alter, Error, Transaction};
 
-/// Runs the statement of `change` within a transaction, and returns how many rows it changed.
+/// Runs the statement of `change` within a transaction, and returns how many rows it changed. The contract
+/// says how many for `SetCeiling` alone, since no caller needs the others. If it fails, nothing is committed.
 pub(crate) fn execute_counted<S: Alter>(
     tx: &mut Transaction<'_, S>,
     change: RowChange<'_>,
@@ -25,7 +26,7 @@ pub(crate) fn execute_counted<S: Alter>(
     Ok(count)
 }
 
-/// Runs the statement of `change` within a transaction.
+/// Runs the statement of `change` within a transaction. If it fails, nothing is committed.
 pub(crate) fn execute<S: Alter>(
     tx: &mut Transaction<'_, S>,
     change: RowChange<'_>,

@@ -14,6 +14,10 @@ use sqlite::{Alter, Connection, Error, Transaction};
 
 /// Removes the operator's plans `ids` with their volumes and spans, in one transaction: all of them, or none
 /// if it fails. Ids that are not stored are passed over.
+///
+/// # Errors
+///
+/// Those of SQLite if memory runs out, the disk fails or the connection's step limit is met.
 pub fn clear_plans<S: Alter>(
     connection: &mut Connection<S>,
     operator: &str,
@@ -31,7 +35,13 @@ pub fn clear_plans<S: Alter>(
 }
 
 /// Stores a plan with its volumes and spans, in place of its former version if there is one, in one
-/// transaction: as a whole, or not at all if it fails. `volumes` and `spans` have to be those of `plan`.
+/// transaction: as a whole, or not at all if it fails. `volumes` and `spans` have to be those of `plan`, and
+/// its operator has to have a row.
+///
+/// # Errors
+///
+/// Those of SQLite if memory runs out, the disk fails or the connection's step limit is met, if a row breaks
+/// a rule of the tables, or if no rowid is left.
 pub fn put_plan<S: Alter>(
     connection: &mut Connection<S>,
     plan: PlanRecord<'_>,
@@ -61,7 +71,8 @@ pub fn put_plan<S: Alter>(
     tx.commit()
 }
 
-// Sets the ceiling of the operator `name`, or adds the operator if there is none, within a transaction.
+// Sets the ceiling of the operator `name`, or adds the operator if it has no row, within a transaction. If it
+// fails, nothing is committed.
 fn set_or_add_operator<S: Alter>(
     tx: &mut Transaction<'_, S>,
     name: &str,
@@ -81,7 +92,13 @@ fn set_or_add_operator<S: Alter>(
     Ok(())
 }
 
-/// Sets the ceiling of the operator `name`, or adds the operator if there is none, in one transaction.
+/// Sets the ceiling of the operator `name`, or adds the operator if it has no row, in one transaction. If it
+/// fails, nothing changes.
+///
+/// # Errors
+///
+/// Those of SQLite if memory runs out, the disk fails or the connection's step limit is met, or if no rowid
+/// is left.
 pub fn put_operator<S: Alter>(
     connection: &mut Connection<S>,
     name: &str,
@@ -98,8 +115,13 @@ pub fn put_operator<S: Alter>(
     tx.commit()
 }
 
-/// Closes the operator's plan `id`, if it is stored, in one transaction: its row gets the usage Closed, this
-/// priority and this state of the aircraft (as in `PlanRecord`), and its spans are removed. Its volumes stay.
+/// Closes the operator's plan `id`, if it is stored, in one transaction: its row gets the usage Closed (2),
+/// this priority and this state of the aircraft (as in `PlanRecord`), and its spans are removed. Its volumes
+/// stay. If it fails, nothing changes.
+///
+/// # Errors
+///
+/// Those of SQLite if memory runs out, the disk fails or the connection's step limit is met.
 pub fn close_plan<S: Alter>(
     connection: &mut Connection<S>,
     operator: &str,

@@ -1,4 +1,7 @@
 //! Rows as they are written, and the statements that add one operator or plan.
+//!
+//! Each row has a rowid, an integer: a new row gets the next one above the greatest in its table. The last is
+//! 2^63 - 1, and then the table takes no more rows. So contracts count the rowids that a change uses.
 
 ghost use Rattle.std.specs.Prelude.{◌≡◌, ⊤};
 ghost use Rattle.desk_sql.specs.{Rows.operator_row, Rows.plan_row, Rows.AddsOperator, Rows.AddsPlan, Rows.IsDesk, Queries.IsChanged, Changing.FitsOperator, Changing.FitsPlan, Effects.Holds};
@@ -19,8 +22,9 @@ pub struct PlanRecord<'a> {
     pub aircraft: u32,
 }
 
-/// A row of `volume2`: altitudes in decimetres above the WGS84 ellipsoid, times in Unix seconds. `place` is
-/// the volume's index in the plan.
+/// A row of `volume2`: altitudes in `lower..upper` (decimetres above the WGS84 ellipsoid), times in
+/// `start..stop` (Unix seconds). `place` is the volume's index in the plan, counted from 0. `asked` has the
+/// footprint's cells or rectangle as the operator sent them, as bytes.
 #[derive(Clone, Copy, Debug)]
 pub struct VolumeRecord<'a> {
     pub operator: &'a str,
@@ -35,8 +39,9 @@ pub struct VolumeRecord<'a> {
     pub canon: &'a [u8],
 }
 
-/// A row of `span2`: leaf positions, altitudes in decimetres above the WGS84 ellipsoid, times in Unix
-/// seconds. `place` is the index of the span's volume in the plan.
+/// A row of `span2`: leaf positions in `first..=last`, altitudes in `lower..upper` (decimetres above the
+/// WGS84 ellipsoid), times in `start..stop` (Unix seconds). `place` is the index of the span's volume in the
+/// plan, counted from 0.
 #[derive(Clone, Copy, Debug)]
 pub struct SpanRecord<'a> {
     pub operator: &'a str,
@@ -51,8 +56,8 @@ pub struct SpanRecord<'a> {
     pub priority: u32,
 }
 
-/// Adds a row to `operator`, within a transaction; it uses one rowid. The operator `name` must not have a row
-/// yet.
+/// Adds a row for the operator `name` to `operator`, within a transaction; it uses one rowid. It fails if the
+/// operator has a row already; after any error nothing is committed.
 pub fn insert_operator<S: Alter>(
     tx: &mut Transaction<'_, S>,
     name: &str,
@@ -67,8 +72,9 @@ pub fn insert_operator<S: Alter>(
     execute(tx, RowChange::AddOperator { name, ceiling })
 }
 
-/// Adds a row to `plan`, within a transaction; `usage` and `aircraft` are as in `PlanRecord`. The operator
-/// needs a row of its own, and the plan must not have one yet. The row uses one rowid.
+/// Adds a row to `plan`, within a transaction; `usage` and `aircraft` are as in `PlanRecord`. The row uses
+/// one rowid. It fails if the plan has a row already, or if the operator has none; after any error nothing is
+/// committed.
 pub fn insert_plan<S: Alter>(
     tx: &mut Transaction<'_, S>,
     operator: &str,

@@ -1,13 +1,14 @@
-//! What holds for each connection. It follows from the contracts of calls that read a connection, so that a
-//! function here makes these calls and does nothing else.
+//! What holds of every connection. It follows from the contracts of calls that read a connection, so the
+//! function here makes these calls, ignores their results, and does nothing else.
 
 ghost use Rattle.std.specs.Prelude.{◌≡◌, false, IsTrue};
 ghost use Rattle.sqlite.specs.{State.IsLive, Held.state};
 
 use sqlite::{Alter, Connection};
 
-/// States that an open connection outside a transaction shows what was committed, and that what it shows is a
-/// sound database. It changes nothing.
+/// States two facts for the proof of its caller. Outside a transaction an open connection shows what was
+/// committed. And what an open connection shows is a sound database: one that obeys its schema. It changes
+/// nothing.
 pub fn committed_and_sound<S: Alter>(connection: &Connection<S>)
     ensures settled { connection.now.in_transaction ≡ false → IsTrue (state S.Store connection.now).is_open
         → (state S.Store connection.now).now ≡ (state S.Store connection.now).committed }

@@ -1,4 +1,4 @@
-//! The parameters of an SQL statement.
+//! The values of the parameters of an SQL statement.
 
 ghost use Rattle.std.specs.Prelude.{◌≡◌, ◌≤◌, length};
 ghost use Rattle.sqlite.specs.Values.{bound};
@@ -9,10 +9,11 @@ use std::marker::Model;
 // The most parameters of a statement.
 const MAX_PARAMETERS: usize = 10;
 
-/// The parameters of a statement, in their order. They need no allocation.
+/// The values of a statement's parameters `?1`, `?2` and so on, at most 10. They are in an array, so that no
+/// memory is allocated.
 #[derive(Drop)]
 pub struct Parameters<'a> {
-    // the parameters, and nulls after them
+    // the values of the parameters, and nulls after them
     values: [ValueRef<'a>; MAX_PARAMETERS],
     // how many parameters there are
     count: usize,
@@ -35,7 +36,7 @@ impl<'a> Model for Parameters<'a> {
 }
 
 impl<'a> Parameters<'a> {
-    /// The parameters `given`, at most 10.
+    /// The parameters with the values `given`, of which there are at most 10. The first is `?1`.
     pub fn of(given: &[ValueRef<'a>]) -> Parameters<'a>
         requires { length given.now ≤ 10 }
         ensures { result ≡ bound given.now }
@@ -48,7 +49,7 @@ impl<'a> Parameters<'a> {
         }
     }
 
-    /// The parameters as SQLite's calls take them.
+    /// The values as a slice, as SQLite's calls take them, without the nulls that fill the array.
     pub fn as_slice(&self) -> &[ValueRef<'a>]
         ensures { bound result.now ≡ self.now }
     {

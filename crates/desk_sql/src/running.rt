@@ -7,8 +7,9 @@ ghost use Rattle.desk_sql.specs.{Queries.IsUndone, Effects.Remembers};
 use sqlite::{Alter, Error, Transaction};
 use sqlite_value::value::ValueRef;
 
-/// Runs a statement that writes, with the parameters `params`, and returns how many rows it changed. What was
-/// committed stays, even if it fails.
+/// Runs `statement`, which writes, within the transaction `tx`, and returns how many rows it changed.
+/// `params` are the values of its parameters `?1`, `?2` and so on. If it fails, nothing is committed, and the
+/// transaction may have been rolled back.
 // Long: what ran, what is shown, what is undone, and where it stopped have a clause each.
 pub fn run<S: Alter>(
     tx: &mut Transaction<'_, S>,

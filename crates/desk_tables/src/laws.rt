@@ -1,4 +1,7 @@
-//! What follows from the definitions. Each function states it as its contract and does nothing.
+//! What follows from the definitions. Each function states it as its contract and does nothing. A start opens
+//! files and finds their state; it is cut short if the program stops before it ends. A crash state of a
+//! connection is a state that the next start can find if the program stops now. What is said of starts holds
+//! while the disk returns what was written.
 
 ghost use Rattle.std.specs.Prelude.{◌≡◌, ◌⊎◌, ℕ, List, [], ◌∷◌, map, Bool, Some, IsTrue, IfOk};
 ghost use Rattle.uuid.specs.Text.{parsed};
@@ -45,6 +48,7 @@ pub fn one_state()
     ensures { (tables : Tables) (one other : World) → IsContent one → IsContent other
         → AreTables tables one → AreTables tables other → one ≡ other }
 {
+    // A law, which changes nothing: footprints with the same bytes are the same.
     one_shape();
 }
 
@@ -54,14 +58,15 @@ pub fn changed_rows_are_the_changed_state()
         → AreTables old w → ChangesRows change old new → AreTables new (changed_by change w) }
 {}
 
-/// A valid state stays valid after a change that fits it and whose values are within their limits.
+/// A valid state stays valid after a change that fits it (of a stored plan, for example, the operator is
+/// enrolled) and whose values are within their limits.
 pub fn a_changed_state_is_valid()
     ensures { (change : Change) (w : World) → IsContent w → IsFitting change w → IsWithinLimits change
         → IsContent (changed_by change w) }
 {}
 
-/// If a plan's rows replace those of the same key in the tables of a state, the tables are changed as a put
-/// says.
+/// If a plan's rows replace those of the same key in the tables of a state, the tables are changed as
+/// `Change::Put` of the plan says.
 pub fn a_plan_put_changes_rows()
     ensures { (p : Filed) (w : World) (old new : Tables) (spans : List Row) → IsContent w
         → IsPlan p.row → AreTables old w → ArePlanSpanRows p spans
@@ -69,7 +74,7 @@ pub fn a_plan_put_changes_rows()
 {}
 
 /// If the row of a stored plan is set to closed and its spans are removed, the tables of a state are changed
-/// as a close of its id says.
+/// as `Change::Close` of its id says.
 pub fn a_plan_closed_changes_rows()
     ensures { (operator id : List ℕ) (p : Filed) (w : World) (old new : Tables) → IsContent w
         → IsId id → AreTables old w → own_of operator id w ≡ p ∷ []
@@ -77,15 +82,16 @@ pub fn a_plan_closed_changes_rows()
         → ClosesRows operator id old new }
 {}
 
-/// If the plans of some ids are removed from the tables of a state, these are changed as a clear of the ids
-/// says.
+/// If the plans of some ids are removed from the tables of a state, these tables are changed as
+/// `Change::Clear` of the ids says.
 pub fn plans_removed_change_rows()
     ensures { (operator : List ℕ) (ids : List (List ℕ)) (w : World) (old new : Tables)
         → AreTables old w → RemovesPlans operator (map id_text ids) old new
         → ClearsRows operator ids old new }
 {}
 
-/// If an operator's row is set or added in the tables of a state, these are changed as an enrolment says.
+/// If an operator's row is set or added in the tables of a state, these tables are changed as `Change::Enrol`
+/// says.
 pub fn an_operator_put_changes_rows()
     ensures { (name : List ℕ) (ceiling : ℕ) (w : World) (old new : Tables) → IsContent w
         → AreTables old w → PutsOperator name ceiling old new → EnrolsRows name ceiling old new }
@@ -126,7 +132,7 @@ pub fn an_interrupted_start_keeps_the_state<D: Disk, E: Disk>()
 }
 
 /// After a start that was cut short anywhere, the next one finds the state that the files had, in either
-/// schema. A store that is opened over it, by a migration too, begins with that state.
+/// schema. A store that is opened then, by a migration too, begins with that state.
 pub fn a_start_after_an_interrupted_one_finds_the_state<D: Disk, E: Disk>()
     ensures found { (image : Image) (w : World) (cut : Held (FileStore D D.Disk))
         (found : Held (FileStore E E.Disk)) → ShowContent D.Disk image w → IsCutShort IsMovedOn image cut
@@ -137,11 +143,12 @@ pub fn a_start_after_an_interrupted_one_finds_the_state<D: Disk, E: Disk>()
         → IsTrue (state over_files new).is_open → BeginsMoved over_files found new other count
         → other ≡ w }
 {
+    // A law, which changes nothing: footprints with the same bytes are the same.
     one_shape();
 }
 
-/// If opening files fails or is cut short before there is a connection, they have the same database as
-/// before. If they had none, they have none, or one of what was found.
+/// If opening files fails or is cut short before there is a connection, the files have the same database as
+/// before. Files without a database still have none then, or the one that opening them would find.
 pub fn a_failed_opening_keeps_the_database<D: Disk>()
     ensures held { (image next : Image) (it : Leftover D D.Disk) (db : Trees) → HoldsDatabase image db
         → RemainsOf image it next → ∥ HoldsDatabase next db ∥₁ }
@@ -161,7 +168,8 @@ pub fn a_start_after_a_failed_opening_finds_the_database<D: Disk, E: Disk, F: Di
         → FindsFirst next found → ∥ IsFoundAfter last found ∥₁ }
 {}
 
-/// Files whose statistics are read, or that are copied, stay as they were, wherever that is cut short.
+/// Files whose statistics are read, or that are copied, keep their database as it was, wherever that is cut
+/// short.
 pub fn reading_keeps_the_database<D: Disk>()
     ensures read { (image : Image) (left : Held (FileStore D D.Disk)) (old : Bool) (w : World)
         → LooksIn image left old w → IsCutShort (λ _ _. ⊥) image left }
@@ -222,8 +230,8 @@ pub fn a_store_in_memory_is_intact(store: &SqliteStore<FileStore<Ram>>)
     ensures { HasCleanDisk (state over_files store.now.held) }
 {}
 
-/// If each read of a store over files is compared with a digest, the disk returned what was written since
-/// that began; or a read returned other bytes with the same digest of 64 bits.
+/// If each read of a store over files is compared with a digest, the disk always returned what was written,
+/// or a read returned other bytes with the same digest of 64 bits.
 pub fn a_store_that_compares_digests_is_intact<C: Calls, S: Start>(
     store: &SqliteStore<FileStore<Modelled<C, S>>>,
 )

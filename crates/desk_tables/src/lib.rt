@@ -1,4 +1,5 @@
-//! The store of plans over tables in SQLite: how it is opened, read, changed, copied and closed.
+//! The store of plans over tables in SQLite: how it is opened, read, changed, copied and closed. Its state
+//! has the operators with their ceilings, and all plans; a state is valid if it keeps the desk's limits.
 #![tactic(auto)]
 
 mod changing;

@@ -1,4 +1,5 @@
-//! A store of plans over tables in SQLite.
+//! A store of plans over tables in SQLite. Its four tables are `operator`, `plan`, `volume2` and `span2`.
+//! What it also keeps in memory answers questions that need no row.
 
 ghost use Rattle.std.specs.Prelude.{◌≡◌, ◌≤◌, IfErr, IfOk};
 ghost use Rattle.sqlite.specs.{Held.state, State.HasCleanDisk};
@@ -62,9 +63,9 @@ impl<S: Alter> Model for SqliteStore<S> {
 }
 
 impl<S: Alter> SqliteStore<S> {
-    /// A store over `connection`, whose rows are those of the state `kept`, with the indexes in memory
-    /// `known`. It reports I/O errors as `reported`. `is_enrolled` is what `has_begun_enrolled` will return;
-    /// no contract says this.
+    /// A store over `connection`, whose rows are those of the state `kept`; `known` are the indexes in memory
+    /// of this state. It reports I/O errors as `reported`. `is_enrolled` is what `has_begun_enrolled` will
+    /// return; no contract says this.
     pub(crate) fn with(
         alloc: Global,
         connection: Connection<S>,
@@ -137,34 +138,46 @@ impl<S: Alter> PlanStore for SqliteStore<S> {
 
     ghost is_shielded = { λ s. (state S.Store s.held).IsShielded };
 
+    // The greatest priority that the operator may use, or `None` if it isn't enrolled. It is in memory: no
+    // row is read, and nothing can fail.
     fn ceiling(&mut self, operator: &Operator) -> Result<Option<u32>, StoreFault> {
         Ok(self.known.roll.ceiling(operator))
     }
 
+    // The operator's plan `id`, or `None` if there is none, read from its rows. A fault `Store` is counted.
     fn plan(&mut self, operator: &Operator, id: &PlanId) -> Result<Option<PlanRow>, StoreFault> {
         let answer = self.tables.plan(operator, id);
         count_fault(&mut self.faults, answer)
     }
 
+    // The usage and the state of the aircraft of the operator's plan `id`, or `None` if there is none. They
+    // are in memory: no row is read, and nothing can fail.
     fn states(&mut self, operator: &Operator, id: &PlanId) -> Result<Option<States>, StoreFault> {
         Ok(self.known.roll.states(operator, id))
     }
 
+    // How many plans the operator has, closed ones too. It is in memory: no row is read, and nothing can
+    // fail.
     fn own_count(&mut self, operator: &Operator) -> Result<u32, StoreFault> {
         Ok(self.known.roll.count(operator))
     }
 
+    // How many spans the operator's live plans have, and how many cells all its plans, without its plan `id`.
+    // They are in memory: no row is read, and nothing can fail.
     fn own_sizes(&mut self, operator: &Operator, id: &PlanId) -> Result<Sizes, StoreFault> {
+        // By these laws, the sums fit 32 bits.
         spans_are_few();
         cells_are_few();
         Ok(self.known.roll.sizes_beside(operator, id))
     }
 
+    // The operator's plans, ascending by id, read from their rows. A fault `Store` is counted.
     fn own_plans(&mut self, operator: &Operator) -> Result<Vec<PlanRow>, StoreFault> {
         let answer = self.tables.own_plans(operator);
         count_fault(&mut self.faults, answer)
     }
 
+    // What `rivals_near` returns for `extent` alone.
     fn rivals(
         &mut self,
         operator: &Operator,
@@ -175,6 +188,9 @@ impl<S: Alter> PlanStore for SqliteStore<S> {
         self.rivals_near(operator, id, least, slice::from_ref(extent))
     }
 
+    // Slabs that have, at each point of `extents`, the greatest priority of the live plans there, without the
+    // operator's plan `id`, if that priority is at least `least`. The indexes in memory are searched first,
+    // so that fewer rows are read. A fault `Store` is counted.
     fn rivals_near(
         &mut self,
         operator: &Operator,
@@ -191,6 +207,9 @@ impl<S: Alter> PlanStore for SqliteStore<S> {
         count_fault(&mut self.faults, answer)
     }
 
+    // Slabs that have, at each point of `extents`, the greatest priority of other operators' live plans
+    // there. The indexes in memory are searched first, so that fewer rows are read. A fault `Store` is
+    // counted.
     fn held_by_others(
         &mut self,
         operator: &Operator,
@@ -200,7 +219,11 @@ impl<S: Alter> PlanStore for SqliteStore<S> {
         count_fault(&mut self.faults, answer)
     }
 
+    // Makes `change` in one transaction, and then in the indexes in memory. What these need is allocated
+    // before, so that nothing can fail after the commit. After an error the state is as before; a fault
+    // `Store` is counted.
     fn apply(&mut self, change: &Change) -> Result<(), StoreFault> {
+        // A law, which changes nothing: the rows of tables stand for at most one state.
         one_state();
         let fresh = self.known.prepare(self.tables.allocator(), change)?;
         match self.tables.make(&self.known.span_bounds, change) {

@@ -48,11 +48,14 @@ impl<S: Alter> DeskTables<S> {
         self.alloc
     }
 
-    /// States that after a crash the database has this state and no other. It changes nothing.
+    /// States, for contracts alone, that after a crash the database has this state and no other. It changes
+    /// nothing.
     pub(crate) fn settled(&self)
         ensures stands { Stands S.Store self.now.held self.now.world }
         ensures left { IsSettledAt S.Store self.now.held self.now.world }
     {
+        // Laws, which change nothing: what the connection shows is committed, and its rows stand for one
+        // state.
         committed_and_sound(&self.connection);
         one_state();
     }

@@ -1,4 +1,5 @@
-//! Bounding boxes of volumes.
+//! Bounding boxes of volumes. A volume is in a box if its bounds (the smallest slab that has its points) lie
+//! within those of the box, and its priority is at most that of the box.
 
 ghost use Rattle.std.specs.Prelude.{◌≡◌, false, ◌∷◌};
 ghost use Rattle.std.specs.List.{AllByRecursion};
@@ -11,7 +12,8 @@ use crate::volume::LiveVolume;
 use slab_regions::SearchArea;
 use volume4d::Slab;
 
-/// A slab that has the bounds of some volumes (`bounds`), and a priority that none of them exceeds (`top`).
+/// A slab that encloses the bounds of some volumes (`bounds`), and a priority that none of them exceeds
+/// (`top`).
 #[derive(Clone, Copy, Debug)]
 pub(crate) struct BoundingBox {
     pub(crate) bounds: Slab,
@@ -19,7 +21,7 @@ pub(crate) struct BoundingBox {
 }
 
 impl BoundingBox {
-    // The bounding box of `first` and `more`.
+    // A bounding box of `first` and all of `more`.
     fn around(first: &LiveVolume, more: &[LiveVolume]) -> BoundingBox
         ensures { AllByRecursion (IsInBox result) (first.now ∷ more.now) }
     {
@@ -30,7 +32,7 @@ impl BoundingBox {
         bbox
     }
 
-    /// The bounding box of `lives`; the empty one if there are none.
+    /// A bounding box of all of `lives`; the empty one if there are none.
     pub(crate) fn around_all(lives: &[LiveVolume]) -> BoundingBox
         ensures { AllByRecursion (IsInBox result) lives.now }
     {
@@ -51,7 +53,7 @@ impl BoundingBox {
         }
     }
 
-    // The bounding box of one volume.
+    // The bounding box of the one volume `live`.
     #[tactic(auto, using(crate::proofs::BoxLemmas::in_box_alone))]
     fn of(live: &LiveVolume) -> BoundingBox
         ensures { IsInBox result live.now }
@@ -62,7 +64,7 @@ impl BoundingBox {
         }
     }
 
-    /// This bounding box, widened so that it encloses `live`, too.
+    /// This bounding box, widened so that it also encloses `live`.
     pub(crate) fn widened(&self, live: &LiveVolume) -> BoundingBox
         ensures one { IsInBox result live.now }
         ensures kept { (other : Live) → IsInBox self.now other → IsInBox result other }
@@ -81,7 +83,8 @@ impl BoundingBox {
         }
     }
 
-    /// Whether a volume in this box may be near `sought` and have the priority `least` or a greater one.
+    /// Whether a volume in this box may be near `sought` and have the priority `least` or a greater one. If
+    /// false, none is so.
     pub(crate) fn may_meet(&self, least: u32, sought: &SearchArea) -> bool
         ensures { result ≡ spec.may_meet least sought.now self.now }
     {

@@ -1,4 +1,4 @@
-//! The effect of a change on a list of volumes of live plans.
+//! The effect of a change on a list of volumes of live plans. A live plan is planned or in use, not closed.
 
 ghost use Rattle.std.specs.Prelude.{◌≡◌, ◌≤◌, ◌+◌, ◌++◌, length, IfOk, OnOk};
 ghost use Rattle.std.specs.List.{filter};
@@ -13,7 +13,7 @@ use desk_rules::plan_id::PlanId;
 use desk_store::Change;
 use std::alloc::{AllocError, Global};
 
-/// Appends the volumes of the operator's plan `row`, if it is live; else nothing.
+/// Appends an entry for each volume of the operator's plan `row`, if the plan is live; else nothing.
 ///
 /// # Errors
 ///
@@ -33,8 +33,8 @@ pub(crate) fn push_plan(
     }
 }
 
-// Appends the volumes of the operator's plan `row`, whether it is live or not. If memory runs out, some may
-// have been appended.
+// Appends an entry for each volume of the operator's plan `row`, whether it is live or not. If memory runs
+// out, some may have been appended.
 fn push_area(
     volumes: &mut Vec<LiveVolume>,
     operator: &Operator,
@@ -67,7 +67,8 @@ pub(crate) fn volumes_added_by(
     Ok(fresh)
 }
 
-/// Removes the volumes of the operator's plan with this id from a list. The capacity stays as it is.
+/// Removes from `volumes` those of the operator's plan with this id. The others keep their order, and the
+/// capacity of the list stays.
 pub(crate) fn remove_plan_volumes(volumes: &mut Vec<LiveVolume>, operator: &Operator, id: &PlanId)
     ensures items { volumes.new.items ≡ filter (is_of_other_plan operator.now id.now) volumes.old.items }
     ensures room { volumes.new.cap ≡ volumes.old.cap }
@@ -76,7 +77,8 @@ pub(crate) fn remove_plan_volumes(volumes: &mut Vec<LiveVolume>, operator: &Oper
     volumes.retain(|live| !live.is_of(operator, id));
 }
 
-/// Appends the volumes `fresh`, for which capacity is reserved, so that it can't fail.
+/// Appends the volumes `fresh` to `volumes`. The caller has reserved capacity for them, so that it can't
+/// fail.
 pub(crate) fn push_all(volumes: &mut Vec<LiveVolume>, fresh: &[LiveVolume])
     requires { length volumes.old.items + length fresh.now ≤ volumes.old.cap }
     ensures { volumes.new.items ≡ volumes.old.items ++ fresh.now }

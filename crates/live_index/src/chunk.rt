@@ -1,4 +1,9 @@
-//! Chunks of volumes, each within a bounding box of its own, so that a query skips most of them.
+//! Chunks of volumes, each within a bounding box of its own, so that a search skips most of them.
+//!
+//! Chunks ascend by the rank (`Rank`) of their volumes, an order in which neighbours are close together.
+//! Within a chunk volumes come in any order. A chunk begins at its `low`: no volume of it has a lesser rank.
+//! The bounds of a volume are the smallest slab that has its points. A volume is near what is sought if its
+//! bounds overlap one of the slabs sought. A plan is wanted if `Wanted` selects it.
 
 ghost use Rattle.std.specs.Prelude.{◌≡◌, ◌+◌, ◌-◌, ◌≤◌, ◌∷◌, ◌++◌, ◌<◌, [], true, length, slice_get, IfOk, OnOk, OnErr, IfSome, IsPermutation};
 ghost use Rattle.std.specs.List.{AllByRecursion, filter};
@@ -28,13 +33,14 @@ pub(crate) const INITIAL_LEN: usize = 48;
 #[derive(Drop)]
 pub(crate) struct Chunk {
     pub(crate) bbox: BoundingBox,
-    // at most the least rank of its volumes: a removal doesn't raise it; no clause mentions it
+    // at most the least rank of its volumes, since a removal doesn't raise it; no clause mentions it
     pub(crate) low: Option<Rank>,
     volumes: Vec<LiveVolume>,
 }
 
 impl Chunk {
-    // A chunk of these volumes, which ascend by rank, with capacity for `FULL` volumes.
+    // A chunk of the volumes `lives`, which ascend by rank, with capacity for `FULL` volumes. If memory runs
+    // out, the error is `AllocError`.
     fn from_all(alloc: Global, lives: &[LiveVolume]) -> Result<Chunk, AllocError>
         ensures same { IfOk result (λ chunk. chunk.volumes.items ≡ lives.now) }
         ensures bounded { IfOk result IsBoundedChunk }
@@ -49,7 +55,8 @@ impl Chunk {
         })
     }
 
-    // Adds a volume, and widens the bounding box. If memory runs out, the chunk stays as it is.
+    // Adds a volume, widens the bounding box, and lowers `low` if need be. If memory runs out, the chunk
+    // stays as it is.
     fn push(&mut self, live: &LiveVolume) -> Result<(), AllocError>
         ensures same { OnOk result (self.new.volumes.items ≡ self.old.volumes.items ++ live.now ∷ []) }
         ensures bounded { OnOk result (IsBoundedChunk self.old → IsBoundedChunk self.new) }
@@ -62,7 +69,8 @@ impl Chunk {
         Ok(())
     }
 
-    // Two new chunks with the volumes of this one by rank: the first half of them, and the others.
+    // Two new chunks with the volumes of this one: the half that is first by rank, and the others. This chunk
+    // stays as it is. If memory runs out, the error is `AllocError`.
     fn halves(&self, alloc: Global) -> Result<(Chunk, Chunk), AllocError>
         ensures same { IfOk result (λ halves. IsPermutation self.now.volumes.items
             (halves.0.volumes.items ++ halves.1.volumes.items)) }
@@ -78,7 +86,7 @@ impl Chunk {
     }
 
     // Removes the volumes of the operator's plan with this id, and makes the bounding box anew. Returns how
-    // many were removed.
+    // many were removed. `low` stays, though the least rank may be gone.
     fn remove_plan(&mut self, operator: &Operator, id: &PlanId) -> usize
         ensures removed { RemovesPlanVolumes operator.now id.now self.old.volumes.items
             self.new.volumes.items result }
@@ -90,8 +98,9 @@ impl Chunk {
         before.saturating_sub(self.volumes.len())
     }
 
-    // Whether the volumes of `next` may be added to this chunk: together they are at most `FULL / 2`, and
-    // there is capacity for them. The clause says of `true` that there is capacity, and nothing of `false`.
+    // Whether the volumes of `next` may be added to this chunk: together they are at most `FULL / 2`, so that
+    // it isn't split again soon, and there is capacity for them. The clause says of `true` only that there is
+    // capacity, and nothing of `false`.
     fn has_room_for(&self, next: &Chunk) -> bool
         ensures { result ≡ true → length self.now.volumes.items + length next.now.volumes.items
             ≤ self.now.volumes.cap }
@@ -100,7 +109,8 @@ impl Chunk {
         sum <= FULL / 2 && sum <= self.volumes.capacity()
     }
 
-    // Adds the volumes of `next`, the chunk that follows by rank, for which there is capacity.
+    // Adds the volumes of `next`, the chunk that follows by rank, for which there is capacity. `low` stays,
+    // since no volume of `next` has a lesser rank.
     fn absorb(&mut self, next: &Chunk)
         requires { length self.old.volumes.items + length next.now.volumes.items ≤ self.old.volumes.cap }
         ensures same { self.new.volumes.items ≡ self.old.volumes.items ++ next.now.volumes.items }
@@ -126,8 +136,9 @@ impl Chunk {
             .any(|live| live.is_of(&plan.operator, &plan.id))
     }
 
-    // Adds the wanted plans that have a volume near `sought` to `near`. Skips the volumes if the bounding box
-    // isn't near; else the chunk counts as searched.
+    // Adds to `near` the wanted plans that have a volume of the chunk near `sought`. If the bounding box
+    // isn't near, or its priority is below `wanted.least`, the volumes are skipped; else the chunk counts as
+    // searched. If memory runs out, the error is `AllocError`.
     fn add_near(
         &self,
         near: &mut NearPlans,
@@ -144,8 +155,8 @@ impl Chunk {
         add_each(near, &self.volumes, wanted, sought)
     }
 
-    /// Whether the bounds of another operator's volume overlap `extent`. Skips the volumes if the bounding
-    /// box doesn't overlap it.
+    /// Whether the chunk has a volume of an operator other than `operator` whose bounds overlap `extent`. If
+    /// the bounding box doesn't overlap it, no volume is looked at.
     pub(crate) fn has_theirs(&self, operator: &Operator, extent: &Slab) -> bool
         ensures { result ≡ chunk_has_theirs operator.now extent.now self.now }
     {
@@ -158,7 +169,8 @@ impl Chunk {
     }
 }
 
-/// Adds the wanted plans that have a volume near `sought` in one of the chunks to `near`.
+/// Adds to `near` the wanted plans that have a volume near `sought` in one of `chunks`, as long as `near` is
+/// complete.
 ///
 /// # Errors
 ///
@@ -199,7 +211,7 @@ pub(crate) fn chunked(alloc: Global, lives: &[LiveVolume]) -> Result<Vec<Chunk>,
     Ok(chunks)
 }
 
-/// Adds a volume to its chunk by rank. A full chunk is split first.
+/// Adds a volume to the chunk to which it belongs by its rank. A full chunk is split first.
 ///
 /// # Errors
 ///
@@ -218,7 +230,8 @@ pub(crate) fn insert(
     add(alloc, chunks, live)
 }
 
-// Splits the chunk that a volume of this rank belongs to, if it is full.
+// Splits the chunk to which a volume of this rank belongs, if it is full. If memory runs out, the chunks stay
+// as they are.
 fn make_room(alloc: Global, chunks: &mut Vec<Chunk>, rank: &Rank) -> Result<(), AllocError>
     ensures same { IsPermutation (volumes_in chunks.old.items) (volumes_in chunks.new.items) }
     ensures bounded { AreBoundedChunks chunks.old.items → AreBoundedChunks chunks.new.items }
@@ -230,7 +243,8 @@ fn make_room(alloc: Global, chunks: &mut Vec<Chunk>, rank: &Rank) -> Result<(), 
     Ok(())
 }
 
-// Adds a volume to its chunk by rank, or to a new one if there are no chunks.
+// Adds a volume to the chunk to which it belongs by its rank, or to a new one if there are no chunks. If
+// memory runs out, the chunks have the same volumes as before.
 fn add(alloc: Global, chunks: &mut Vec<Chunk>, live: &LiveVolume) -> Result<(), AllocError>
     ensures added { OnOk result (IsPermutation (live.now ∷ volumes_in chunks.old.items)
         (volumes_in chunks.new.items)) }
@@ -258,7 +272,8 @@ fn cut(alloc: Global, chunks: &mut Vec<Chunk>, at: usize) -> Result<(), AllocErr
     Ok(())
 }
 
-// The index of the last chunk that begins at `rank` or before, or 0 if there is none.
+// The index of the last chunk that begins at `rank` or before, or 0 if there is none: a volume of this rank
+// belongs there.
 fn last_at_or_before(chunks: &[Chunk], rank: &Rank) -> usize
     ensures { result ≤ length chunks.now - 1 }
 {
@@ -269,8 +284,8 @@ fn last_at_or_before(chunks: &[Chunk], rank: &Rank) -> usize
 
 // ---- removing
 
-/// Removes the volumes of the rank's plan from the first chunk that may have the rank and has volumes of that
-/// plan. Returns how many were removed.
+/// Removes the volumes of the plan `rank.plan` from the chunk that `chunk_with` finds. Returns how many were
+/// removed, or 0 if it finds none.
 pub(crate) fn remove_at(chunks: &mut Vec<Chunk>, rank: &Rank) -> usize
     ensures removed { RemovesPlanVolumes rank.now.plan.operator rank.now.plan.id (volumes_in chunks.old.items)
         (volumes_in chunks.new.items) result }
@@ -284,8 +299,9 @@ pub(crate) fn remove_at(chunks: &mut Vec<Chunk>, rank: &Rank) -> usize
     }
 }
 
-/// The index of the first chunk that may have the rank and has a volume of the rank's plan, or else the
-/// number of chunks.
+/// The index of the first chunk that has a volume of the plan `rank.plan`, of those that may have this rank:
+/// from the last chunk that begins before it to the first that begins after it. If none has one, the number
+/// of chunks.
 pub(crate) fn chunk_with(chunks: &[Chunk], rank: &Rank) -> usize
     ensures bound { result ≤ length chunks.now }
     ensures found { IfSome (slice_get chunks.now result)
@@ -303,8 +319,9 @@ pub(crate) fn chunk_with(chunks: &[Chunk], rank: &Rank) -> usize
     at
 }
 
-// Removes the volumes of the operator's plan from the chunk at `at`, and the chunk if it is empty then.
-// Merges the chunks there with their neighbours where they are small. Returns how many volumes were removed.
+// Removes the volumes of the operator's plan with this id from the chunk at the index `at`, and the chunk if
+// it is empty then. Merges what is there with its neighbours if they are small. Returns how many volumes were
+// removed.
 fn remove_from_chunk(chunks: &mut Vec<Chunk>, operator: &Operator, id: &PlanId, at: usize) -> usize
     requires { at < length chunks.old.items }
     ensures removed { RemovesPlanVolumes operator.now id.now (volumes_in chunks.old.items)
@@ -318,7 +335,8 @@ fn remove_from_chunk(chunks: &mut Vec<Chunk>, operator: &Operator, id: &PlanId, 
     gone
 }
 
-// Merges the chunk at `at` with the next one, if both together are at most half full and there is capacity.
+// Merges the chunk at the index `at` with the next one, if both together are at most half full and there is
+// capacity. Else the chunks stay as they are.
 fn merge(chunks: &mut Vec<Chunk>, at: usize)
     ensures same { volumes_in chunks.new.items ≡ volumes_in chunks.old.items }
     ensures bounded { AreBoundedChunks chunks.old.items → AreBoundedChunks chunks.new.items }
@@ -330,7 +348,7 @@ fn merge(chunks: &mut Vec<Chunk>, at: usize)
     }
 }
 
-// Removes the chunk at `at` if it has no volumes.
+// Removes the chunk at the index `at` if it has no volumes.
 fn drop_if_empty(chunks: &mut Vec<Chunk>, at: usize)
     requires { at < length chunks.old.items }
     ensures same { volumes_in chunks.new.items ≡ volumes_in chunks.old.items }
@@ -342,8 +360,8 @@ fn drop_if_empty(chunks: &mut Vec<Chunk>, at: usize)
     }
 }
 
-/// Removes the volumes of the operator's plan with this id from all chunks. Their bounding boxes stay as they
-/// are, and so do empty chunks.
+/// Removes the volumes of the operator's plan with this id from all chunks. The bounding boxes stay as they
+/// are, so they may be too big. Empty chunks stay, too.
 pub(crate) fn remove_from_all(chunks: &mut Vec<Chunk>, operator: &Operator, id: &PlanId)
     ensures same { volumes_in chunks.new.items
         ≡ filter (is_of_other_plan operator.now id.now) (volumes_in chunks.old.items) }

@@ -1,4 +1,9 @@
-//! Groups of chunks, each within a bounding box of its own, so that a query skips most chunks.
+//! Groups of chunks, each within a bounding box of its own, so that a search skips most chunks.
+//!
+//! Groups, and the chunks of each, ascend by the rank (`Rank`) of their volumes, an order in which neighbours
+//! are close together. A group begins at its `low`: no volume of it has a lesser rank. The bounds of a volume
+//! are the smallest slab that has its points. A volume is near what is sought if its bounds overlap one of
+//! the slabs sought. A plan is wanted if `Wanted` selects it.
 
 ghost use Rattle.std.specs.Prelude.{◌≡◌, ◌∷◌, ◌++◌, [], true, ◌<◌, ◌≤◌, ◌+◌, ◌-◌, length, slice_get, IfOk, OnOk, OnErr, IfSome, IsPermutation};
 ghost use Rattle.std.specs.List.{AllByRecursion, filter, insert as insert_at};
@@ -25,13 +30,14 @@ const INITIAL_VOLUMES: usize = INITIAL_LEN * INITIAL_LEN;
 #[derive(Drop)]
 pub(crate) struct Group {
     bbox: BoundingBox,
-    // at most the least rank of its volumes: a removal doesn't raise it; no clause mentions it
+    // at most the least rank of its volumes, since a removal doesn't raise it; no clause mentions it
     low: Option<Rank>,
     chunks: Vec<Chunk>,
 }
 
 impl Group {
-    // A group of these volumes, which ascend by rank, in chunks.
+    // A group of the volumes `lives`, which ascend by rank, in chunks. If memory runs out, the error is
+    // `AllocError`.
     fn try_new(alloc: Global, lives: &[LiveVolume]) -> Result<Group, AllocError>
         ensures same { IfOk result (λ group. volumes_in group.chunks.items ≡ lives.now) }
         ensures group_bounded { IfOk result IsBoundedGroup }
@@ -55,8 +61,8 @@ impl Group {
         }
     }
 
-    // Adds a volume to its chunk by rank, and widens the bounding box. If memory runs out, the group has the
-    // same volumes as before.
+    // Adds a volume to the chunk to which it belongs by its rank, widens the bounding box, and lowers `low`
+    // if need be. If memory runs out, the group has the same volumes as before.
     fn insert(&mut self, alloc: Global, live: &LiveVolume) -> Result<(), AllocError>
         ensures added { OnOk result (IsPermutation (live.now ∷ volumes_in self.old.chunks.items)
             (volumes_in self.new.chunks.items)) }
@@ -70,7 +76,7 @@ impl Group {
         Ok(())
     }
 
-    // Splits the group: it keeps the first half of its chunks, and a group of the others is returned. If
+    // Splits the group: it keeps the first half of its chunks, and a new group of the others is returned. If
     // memory runs out, it stays as it is.
     fn halve(&mut self) -> Result<Group, AllocError>
         ensures same { IfOk result (λ later. volumes_in self.old.chunks.items
@@ -84,8 +90,8 @@ impl Group {
         Ok(Group::of(later))
     }
 
-    // Removes the volumes of the rank's plan from the first chunk that may have the rank and has volumes of
-    // that plan. Returns how many were removed.
+    // Removes the volumes of the plan `rank.plan` from the chunk that `chunk_with` finds: the first that may
+    // have the rank and has volumes of that plan. Returns how many were removed, or 0 if there is none.
     fn remove_plan(&mut self, rank: &Rank) -> usize
         ensures removed { RemovesPlanVolumes rank.now.plan.operator rank.now.plan.id
             (volumes_in self.old.chunks.items) (volumes_in self.new.chunks.items) result }
@@ -96,7 +102,8 @@ impl Group {
         gone
     }
 
-    // Whether there is capacity for the chunks of `next`, and the group would be at most half full then.
+    // Whether the chunks of `next` may be added to this group: it would be at most half full, and there is
+    // capacity for them. The clause says of `true` only that there is capacity, and nothing of `false`.
     fn has_room_for(&self, next: &Group) -> bool
         ensures { result ≡ true → length self.now.chunks.items + length next.now.chunks.items
             ≤ self.now.chunks.cap }
@@ -105,7 +112,8 @@ impl Group {
         sum <= FULL / 2 && sum <= self.chunks.capacity()
     }
 
-    // Adds the chunks of `next`, the group that follows by rank, for which there is capacity.
+    // Adds the chunks of `next`, the group that follows by rank, for which there is capacity. `low` stays,
+    // since no volume of `next` has a lesser rank.
     fn absorb(&mut self, next: Group)
         requires { length self.old.chunks.items + length next.chunks.items ≤ self.old.chunks.cap }
         ensures same { volumes_in self.new.chunks.items
@@ -123,7 +131,7 @@ impl Group {
         self.chunks.is_empty()
     }
 
-    // Whether one of its chunks may have the rank and has a volume of the rank's plan.
+    // Whether one of its chunks may have the rank and has a volume of the plan `rank.plan`.
     fn has_plan_at(&self, rank: &Rank) -> bool
         ensures { result ≡ true
             → group_has_plan rank.now.plan.operator rank.now.plan.id self.now ≡ true }
@@ -131,8 +139,9 @@ impl Group {
         chunk_with(&self.chunks, rank) < self.chunks.len()
     }
 
-    // Adds the wanted plans that have a volume near `sought` to `near`. Skips the chunks if the bounding box
-    // isn't near, or if a limit was exceeded already.
+    // Adds to `near` the wanted plans that have a volume of the group near `sought`. Skips the chunks if the
+    // bounding box isn't near, if its priority is below `wanted.least`, or if `near` isn't complete any more.
+    // If memory runs out, the error is `AllocError`.
     fn add_near(
         &self,
         near: &mut NearPlans,
@@ -151,8 +160,8 @@ impl Group {
         chunks::add_near_in(near, &self.chunks, wanted, sought)
     }
 
-    /// Whether the bounds of another operator's volume overlap `extent`. Skips the chunks if the bounding box
-    /// doesn't overlap it.
+    /// Whether the group has a volume of an operator other than `operator` whose bounds overlap `extent`. If
+    /// the bounding box doesn't overlap it, no chunk is looked at.
     pub(crate) fn has_theirs(&self, operator: &Operator, extent: &Slab) -> bool
         ensures { result ≡ group_has_theirs operator.now extent.now self.now }
     {
@@ -175,7 +184,8 @@ fn move_all(chunks: &mut Vec<Chunk>, mut more: Vec<Chunk>)
     }
 }
 
-// The bounding box of the volumes of all chunks; the empty one if there are none.
+// A bounding box of the volumes of all chunks: the boxes of the chunks, joined; the empty one if there are
+// none.
 fn around_chunks(chunks: &[Chunk]) -> BoundingBox
     ensures { AreBoundedChunks chunks.now → AllByRecursion (IsInBox result) (volumes_in chunks.now) }
 {
@@ -185,7 +195,7 @@ fn around_chunks(chunks: &[Chunk]) -> BoundingBox
     }
 }
 
-// A box around the volumes of `first` and `others`: the boxes of these chunks, joined.
+// A bounding box of the volumes of `first` and `others`: the boxes of these chunks, joined.
 fn join_of_boxes(first: &Chunk, others: &[Chunk]) -> BoundingBox
     ensures { AreBoundedChunks (first.now ∷ others.now)
         → AllByRecursion (IsInBox result) (volumes_in (first.now ∷ others.now)) }
@@ -197,7 +207,8 @@ fn join_of_boxes(first: &Chunk, others: &[Chunk]) -> BoundingBox
     bbox
 }
 
-/// Adds the wanted plans that have a volume near `sought` in one of the groups to `near`.
+/// Adds to `near` the wanted plans that have a volume near `sought` in one of `groups`, as long as `near` is
+/// complete.
 ///
 /// # Errors
 ///
@@ -219,8 +230,8 @@ pub(crate) fn add_near_in(
 
 // ---- making and filling
 
-/// Divides volumes, which ascend by rank, into groups of up to `INITIAL_VOLUMES` volumes in chunks, in their
-/// order.
+/// Divides volumes, which ascend by rank, into groups of up to `INITIAL_VOLUMES` volumes, and these into
+/// chunks, in their order.
 ///
 /// # Errors
 ///
@@ -239,7 +250,8 @@ pub(crate) fn grouped(alloc: Global, lives: &[LiveVolume]) -> Result<Vec<Group>,
     Ok(groups)
 }
 
-/// Adds a volume to its group and chunk by rank. A full group or chunk is split first.
+/// Adds a volume to the group and the chunk to which it belongs by its rank. If one is full, it is split
+/// first.
 ///
 /// # Errors
 ///
@@ -259,7 +271,8 @@ pub(crate) fn insert(
     add(alloc, groups, live)
 }
 
-// Splits the group that a volume of this rank belongs to, if it is full.
+// Splits the group to which a volume of this rank belongs, if it is full. If memory runs out, the groups stay
+// as they are.
 fn make_room(groups: &mut Vec<Group>, rank: &Rank) -> Result<(), AllocError>
     ensures same { volumes_under groups.new.items ≡ volumes_under groups.old.items }
     ensures group_bounded { AreBoundedGroups groups.old.items → AreBoundedGroups groups.new.items }
@@ -271,7 +284,8 @@ fn make_room(groups: &mut Vec<Group>, rank: &Rank) -> Result<(), AllocError>
     Ok(())
 }
 
-// Adds a volume to its group by rank, or to a new one if there are no groups.
+// Adds a volume to the group to which it belongs by its rank, or to a new one if there are no groups. If
+// memory runs out, the groups have the same volumes as before.
 fn add(alloc: Global, groups: &mut Vec<Group>, live: &LiveVolume) -> Result<(), AllocError>
     ensures added { OnOk result (IsPermutation (live.now ∷ volumes_under groups.old.items)
         (volumes_under groups.new.items)) }
@@ -300,7 +314,8 @@ fn cut(groups: &mut Vec<Group>, at: usize) -> Result<(), AllocError>
     Ok(())
 }
 
-// Inserts the group `later` after the one at `at`. There is capacity for it, so `insert` can't fail.
+// Inserts the group `later` after the one at the index `at`. There is capacity for it, so `insert` can't
+// fail.
 fn insert_after(groups: &mut Vec<Group>, at: usize, later: Group)
     requires place { at < length groups.old.items }
     requires room { length groups.old.items + 1 ≤ groups.old.cap }
@@ -311,7 +326,8 @@ fn insert_after(groups: &mut Vec<Group>, at: usize, later: Group)
     }
 }
 
-// The index of the last group that begins at `rank` or before, or 0 if there is none.
+// The index of the last group that begins at `rank` or before, or 0 if there is none: a volume of this rank
+// belongs there.
 fn last_at_or_before(groups: &[Group], rank: &Rank) -> usize
     ensures { result ≤ length groups.now - 1 }
 {
@@ -322,8 +338,9 @@ fn last_at_or_before(groups: &[Group], rank: &Rank) -> usize
 
 // ---- removing
 
-/// Removes the volumes of a plan from the groups. They are expected at `places`, one place for each; if fewer
-/// are found there, all groups are searched.
+/// Removes the volumes of a plan from the groups. `places` has the place of each volume, and may have others.
+/// First the volumes are looked for at these places; if fewer are found than there are places, all groups are
+/// searched.
 pub(crate) fn remove_all(groups: &mut Vec<Group>, plan: &PlanKey, places: &[u128])
     ensures same { count_of plan.now.operator plan.now.id (volumes_under groups.old.items)
         ≤ length places.now → volumes_under groups.new.items
@@ -349,8 +366,8 @@ fn remove_at_places(groups: &mut Vec<Group>, plan: &PlanKey, places: &[u128]) ->
     gone
 }
 
-// Removes volumes of the rank's plan from the first group that may have the rank and has volumes of that
-// plan. Returns how many were removed.
+// Removes the volumes of the plan `rank.plan` from one chunk of the group that `group_with` finds. Returns
+// how many were removed, or 0 if it finds none.
 fn remove_at(groups: &mut Vec<Group>, rank: &Rank) -> usize
     ensures removed { RemovesPlanVolumes rank.now.plan.operator rank.now.plan.id
         (volumes_under groups.old.items) (volumes_under groups.new.items) result }
@@ -364,8 +381,9 @@ fn remove_at(groups: &mut Vec<Group>, rank: &Rank) -> usize
     }
 }
 
-// The index of the first group that may have the rank and has a volume of the rank's plan, or else the number
-// of groups.
+// The index of the first group with a chunk that may have this rank and has a volume of the plan `rank.plan`,
+// of the groups that may have the rank: from the last that begins before it to the first that begins after
+// it. If none has one, the number of groups.
 fn group_with(groups: &[Group], rank: &Rank) -> usize
     ensures bound { result ≤ length groups.now }
     ensures found { IfSome (slice_get groups.now result)
@@ -383,8 +401,9 @@ fn group_with(groups: &[Group], rank: &Rank) -> usize
     at
 }
 
-// Removes volumes of the rank's plan from the group at `at`, and the group if it is empty then. Merges the
-// groups there with their neighbours where they are small. Returns how many volumes were removed.
+// Removes the volumes of the plan `rank.plan` from one chunk of the group at the index `at`, and the group if
+// it is empty then. Merges what is there with its neighbours if they are small. Returns how many volumes were
+// removed.
 fn remove_from_group(groups: &mut Vec<Group>, rank: &Rank, at: usize) -> usize
     requires { at < length groups.old.items }
     ensures removed { RemovesPlanVolumes rank.now.plan.operator rank.now.plan.id
@@ -398,7 +417,8 @@ fn remove_from_group(groups: &mut Vec<Group>, rank: &Rank, at: usize) -> usize
     gone
 }
 
-// Merges the group at `at` with the next one, if both together are at most half full and there is capacity.
+// Merges the group at the index `at` with the next one, if both together are at most half full and there is
+// capacity. Else the groups stay as they are.
 fn merge(groups: &mut Vec<Group>, at: usize)
     ensures same { volumes_under groups.new.items ≡ volumes_under groups.old.items }
     ensures group_bounded { AreBoundedGroups groups.old.items → AreBoundedGroups groups.new.items }
@@ -409,7 +429,7 @@ fn merge(groups: &mut Vec<Group>, at: usize)
     }
 }
 
-// Removes the group at `at` if it has no chunks.
+// Removes the group at the index `at` if it has no chunks.
 fn drop_if_empty(groups: &mut Vec<Group>, at: usize)
     requires { at < length groups.old.items }
     ensures same { volumes_under groups.new.items ≡ volumes_under groups.old.items }
@@ -421,8 +441,8 @@ fn drop_if_empty(groups: &mut Vec<Group>, at: usize)
     }
 }
 
-// Removes the volumes of the operator's plan with this id from all groups. Their bounding boxes stay as they
-// are, and so do empty chunks and groups.
+// Removes the volumes of the operator's plan with this id from all groups. The bounding boxes stay as they
+// are, so they may be too big. Empty chunks and groups stay, too.
 fn remove_from_all(groups: &mut Vec<Group>, operator: &Operator, id: &PlanId)
     ensures same { volumes_under groups.new.items
         ≡ filter (is_of_other_plan operator.now id.now) (volumes_under groups.old.items) }

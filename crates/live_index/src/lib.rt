@@ -1,5 +1,11 @@
 //! An index in memory of the volumes of live plans, beside a store's tables: of each volume the operator, the
 //! plan, the priority and the bounds.
+//!
+//! A live plan is planned or in use, not closed. The bounds of a volume are the smallest slab that has its
+//! points; a slab has the leaf positions of one run along the S2 curve, in one range of altitudes and one of
+//! seconds. Volumes are kept in chunks of up to 64 that lie close together, and chunks in groups of up to 64.
+//! Each chunk and each group has a bounding box, so that a search skips those that are far away. An extent is
+//! a slab that is searched.
 #![tactic(auto)]
 
 mod bbox;

@@ -1,4 +1,9 @@
-//! The index of the volumes of all live plans.
+//! The index of the volumes of all live plans: those that are planned or in use, not closed.
+//!
+//! Volumes are in chunks, and chunks in groups, each within a bounding box, so that a search skips most of
+//! them. Volumes that the last change added are unindexed: they are in no chunk yet. The bounds of a volume
+//! are the smallest slab that has its points. A volume is near an extent, a slab that is searched, if its
+//! bounds overlap it.
 
 ghost use Rattle.std.specs.Prelude.{◌≡◌, ◌≤◌, ◌-◌, ◌++◌, not, ◌∷◌, [], List, length, IfOk, IfSome, OnOk};
 ghost use Rattle.std.specs.{List.filter, List.Sorted.IsStrictlySortedBy};
@@ -52,8 +57,9 @@ impl LiveIndex {
         }
     }
 
-    /// Regions that have every point of `extents` at which live plans of operators other than `operator` may
-    /// be; none if there are no such plans near. Regions don't overlap along the curve.
+    /// Slabs, called regions, that have every point of `extents` at which live plans of operators other than
+    /// `operator` may be; none if no volume of such a plan is near. Regions don't overlap along the curve.
+    /// More than `MAX_REGION_EXTENTS` extents are taken as one slab round all of them.
     ///
     /// # Errors
     ///
@@ -72,7 +78,7 @@ impl LiveIndex {
         joined(alloc, near)
     }
 
-    // Whether the bounds of another operator's volume overlap `extent`.
+    // Whether there is a volume of an operator other than `operator` whose bounds overlap `extent`.
     fn has_theirs(&self, operator: &Operator, extent: &Slab) -> bool
         ensures { result ≡ has_theirs operator.now self.now extent.now }
     {
@@ -85,9 +91,10 @@ impl LiveIndex {
                 .any(|live| live.is_theirs(operator, extent))
     }
 
-    /// The wanted plans that may hold a point of `extents`; `None` if there are no extents, or if reading the
-    /// plans would cost more than `room` rows. Up to `MAX_SEARCHED_PARTS` extents are searched at once, more
-    /// one by one if that takes at most `MAX_SEARCHES` chunks, and else as one slab round all of them.
+    /// The plans that `wanted` selects and that may hold a point of `extents`. `None` if there are no
+    /// extents, or if reading the plans would cost more than `room` rows. Up to `MAX_SEARCHED_PARTS` extents
+    /// are searched at once. More are searched one by one, if that takes at most `MAX_SEARCHES` chunks, and
+    /// else as one slab round all of them.
     ///
     /// # Errors
     ///
@@ -112,7 +119,8 @@ impl LiveIndex {
     }
 
     // The wanted plans near `extents`, which are searched one by one. `None` if reading the plans would cost
-    // more than `room` rows, or if more than `MAX_SEARCHES` chunks would be searched.
+    // more than `room` rows, or if more than `MAX_SEARCHES` chunks would be searched. If memory runs out, the
+    // error is `AllocError`.
     fn near_one_by_one(
         &self,
         alloc: Global,
@@ -133,9 +141,9 @@ impl LiveIndex {
         near.if_complete(alloc)
     }
 
-    // The wanted plans near `extents`, which are searched all at once: near one slab round all if there are
-    // more than `MAX_SEARCHED_PARTS`. `None` if reading the plans would cost more than `room` rows, or if
-    // there are no extents.
+    // The wanted plans near `extents`, which are searched all at once, or as one slab round all of them if
+    // there are more than `MAX_SEARCHED_PARTS`. `None` if reading the plans would cost more than `room` rows,
+    // or if there are no extents. If memory runs out, the error is `AllocError`.
     fn near_at_once(
         &self,
         alloc: Global,
@@ -159,8 +167,8 @@ impl LiveIndex {
         near.if_complete(alloc)
     }
 
-    // Lists in `near` the plans that have a volume near `sought`, but those that `wanted` leaves out, until a
-    // limit of `near` is exceeded.
+    // Adds to `near` the wanted plans that have a volume near `sought`, until a limit of `near` is exceeded.
+    // If memory runs out, the error is `AllocError`.
     fn add_near(
         &self,
         near: &mut NearPlans,
@@ -174,7 +182,8 @@ impl LiveIndex {
         self.add_unindexed(near, wanted, sought)
     }
 
-    // Adds the wanted plans that have an unindexed volume near `sought` to `near`.
+    // Adds to `near` the wanted plans that have an unindexed volume near `sought`, until a limit of `near` is
+    // exceeded. If memory runs out, the error is `AllocError`.
     fn add_unindexed(
         &self,
         near: &mut NearPlans,
@@ -187,8 +196,8 @@ impl LiveIndex {
         add_each(near, &self.unindexed, wanted, sought)
     }
 
-    /// Prepares for `update_after`: moves the unindexed volumes into chunks, and returns the volumes that the
-    /// change adds, with capacity reserved for them.
+    /// Prepares for `update_after`: moves the unindexed volumes into chunks, and returns the volumes that
+    /// `change` adds. Capacity is reserved for these.
     ///
     /// # Errors
     ///
@@ -205,8 +214,8 @@ impl LiveIndex {
         Ok(fresh)
     }
 
-    /// Updates the index after a change: removes the volumes of the plans that the change names, and adds
-    /// `fresh`, which `prepare` returned for it. It needs no allocation, and so can't fail.
+    /// Updates the index after the store has made `change`: removes the volumes of the plans that the change
+    /// names, and adds `fresh`, which `prepare` returned for it. It needs no allocation, and so can't fail.
     pub fn update_after(&mut self, change: &Change, fresh: &[LiveVolume])
         requires room { HasRoomForVolumes self.old (length fresh.now) }
         requires added { AreAddedBy change.now fresh.now }
@@ -218,7 +227,8 @@ impl LiveIndex {
         push_all(&mut self.unindexed, fresh);
     }
 
-    // Removes the volumes of the plans that a change names: those that it puts, closes or clears.
+    // Removes the volumes of the plans that `change` names: those that it puts (their former version), closes
+    // or clears.
     fn remove_named(&mut self, change: &Change)
         ensures { HasLeft (stays_at change.now) self.old self.new }
     {
@@ -239,8 +249,8 @@ impl LiveIndex {
         }
     }
 
-    // Removes the volumes of the operator's plan with this id, from the unindexed ones and from the groups,
-    // and then the plan's places, at which the groups are searched.
+    // Removes the volumes of the operator's plan with this id from the unindexed ones and from the groups,
+    // where they are looked for at the plan's places. Then it removes these places.
     fn remove_plan(&mut self, operator: &Operator, id: &PlanId)
         ensures { HasLeft (is_of_other_plan operator.now id.now) self.old self.new }
     {
@@ -253,7 +263,8 @@ impl LiveIndex {
         self.places.forget(&key);
     }
 
-    // Moves the unindexed volumes into chunks, one by one. If memory runs out, some may have been moved.
+    // Moves the unindexed volumes into chunks, one by one. If memory runs out, some may have been moved, and
+    // none is lost.
     fn settle(&mut self, alloc: Global) -> Result<(), AllocError>
         ensures kept { (w : World) → AreKeptOnce self.old w → AreKeptOnce self.new w }
         ensures settled { OnOk result (AreSettled self.new) }
@@ -264,8 +275,8 @@ impl LiveIndex {
         Ok(())
     }
 
-    // Moves the last unindexed volume into a chunk, if there is one. Its place is noted first: a place too
-    // many does no harm if memory runs out, but a volume in a group without a place might not be found.
+    // Moves the last unindexed volume into a chunk, if there is one. Its place is noted first: if memory runs
+    // out, a place too many does no harm, but a volume in a chunk without a place might not be found.
     fn settle_one(&mut self, alloc: Global) -> Result<(), AllocError>
         ensures kept { (w : World) → AreKeptOnce self.old w → AreKeptOnce self.new w }
         ensures fewer { OnOk result (length self.new.unindexed.items ≡ length self.old.unindexed.items - 1) }
@@ -297,7 +308,7 @@ impl LiveIndexBuilder {
         }
     }
 
-    /// Adds the volumes of the operator's plan `row`, if it is live.
+    /// Adds the volumes of the operator's plan `row`, if the plan is live; else nothing.
     ///
     /// # Errors
     ///
@@ -309,7 +320,7 @@ impl LiveIndexBuilder {
         push_plan(&mut self.volumes, operator, row)
     }
 
-    /// The index of the volumes that were added.
+    /// The index of the volumes that were added. No plan may have been added twice.
     ///
     /// # Errors
     ///

@@ -1,4 +1,8 @@
-//! A collector of the plans whose volumes are near extents, as long as reading them costs few rows.
+//! A collector of the plans whose volumes are near extents, as long as reading the plans costs few rows.
+//!
+//! A volume is near if its bounds overlap a slab of the search (`SearchArea`). There is a limit on the rows
+//! that reading the plans costs, and one on the chunks that are searched. Once one is exceeded, the list of
+//! plans isn't complete, and no more plans are added.
 
 ghost use Rattle.std.specs.Prelude.{◌≡◌, ◌∷◌, [], true, IfOk, IfSome, OnOk};
 ghost use Rattle.live_index.specs.Live.{AddsPlans, ListsSamePlans, TakesPlan, is_among};
@@ -14,7 +18,7 @@ use std::collections::BTreeSet;
 // What the query that reads one more plan costs, in rows.
 const QUERY_COST: usize = 10;
 
-/// The key of a plan.
+/// The key of a plan: its operator and its id together.
 #[derive(Clone, Copy, Debug, PartialEq, Eq, PartialOrd, Ord)]
 pub struct PlanKey {
     pub operator: Operator,
@@ -44,7 +48,7 @@ pub(crate) struct NearPlans {
 }
 
 impl NearPlans {
-    /// No plans yet, with the limits of `room` rows and `searches_left` chunks searched.
+    /// No plans yet. Reading the plans may cost `room` rows, and `searches_left` chunks may be searched.
     pub(crate) fn new(alloc: Global, room: usize, searches_left: usize) -> NearPlans
         ensures keys { result.keys.keys ≡ [] }
     {
@@ -56,7 +60,8 @@ impl NearPlans {
         }
     }
 
-    /// Counts a chunk that is searched. If no more may be searched, the plans aren't complete from now on.
+    /// Counts a chunk that is searched. If the limit on these is reached already, the list isn't complete
+    /// from now on.
     pub(crate) fn count_search(&mut self)
         ensures { ListsSamePlans self.old self.new }
     {
@@ -64,7 +69,8 @@ impl NearPlans {
         self.searches_left = self.searches_left.saturating_sub(1);
     }
 
-    /// Adds the plan of `live`, if it is wanted and the volume is near `sought`.
+    /// Adds the plan of `live`, if it is wanted, the volume is near `sought`, and the list is complete so
+    /// far.
     ///
     /// # Errors
     ///
@@ -97,7 +103,9 @@ impl NearPlans {
         self.keys.contains(&live.key())
     }
 
-    // Adds the plan of `live`, unless its rows exceed the limit: then the plans aren't complete from now on.
+    // Adds the plan of `live`, which isn't listed yet. Reading it costs its rows (an estimate) and
+    // `QUERY_COST`. If that is more than is left, the plan isn't added, and the list isn't complete from now
+    // on. If memory runs out, the error is `AllocError`.
     fn take(&mut self, live: &LiveVolume) -> Result<(), AllocError>
         ensures { OnOk result (TakesPlan live.now self.old self.new) }
     {
@@ -111,7 +119,7 @@ impl NearPlans {
         Ok(())
     }
 
-    /// The keys of the plans, ascending, or `None` if a limit was exceeded.
+    /// The keys of the plans, ascending; `None` if the list isn't complete, since a limit was exceeded.
     ///
     /// # Errors
     ///
@@ -131,7 +139,8 @@ impl NearPlans {
     }
 }
 
-/// Adds the wanted plans that have one of the volumes `lives` near `sought` to `near`.
+/// Adds to `near` the wanted plans that have one of the volumes `lives` near `sought`, as long as `near` is
+/// complete.
 ///
 /// # Errors
 ///

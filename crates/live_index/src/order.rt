@@ -1,4 +1,5 @@
-//! An order of volumes in which neighbours are close together in time, on the ground and in height.
+//! An order of volumes in which neighbours are close together in time, on the ground and in height. So the
+//! volumes of a chunk, which follow each other in this order, have a small bounding box.
 
 ghost use Rattle.std.specs.Prelude.{◌≡◌, ◌+◌, ◌*◌, ◌%◌, ◌^◌, bit_and, IsPermutation};
 
@@ -6,8 +7,8 @@ use crate::near::PlanKey;
 use crate::volume::LiveVolume;
 use volume4d::Slab;
 
-/// The key of a volume in that order: its place, and then its plan, so that a plan's volumes are found even
-/// if many other plans have volumes at the same place.
+/// The key of a volume in that order: its place (`place_of`), and then its plan, so that a plan's volumes are
+/// found even if many other plans have volumes at the same place.
 #[derive(Clone, Copy, Debug, PartialEq, Eq, PartialOrd, Ord)]
 pub(crate) struct Rank {
     pub(crate) place: u128,
@@ -15,7 +16,7 @@ pub(crate) struct Rank {
 }
 
 impl Rank {
-    /// The rank of a plan's volume at a place.
+    /// The rank of a volume of the plan `plan` at the place `place`.
     pub(crate) fn of(plan: &PlanKey, place: u128) -> Rank
         ensures place { result.place ≡ place }
         ensures plan { result.plan ≡ plan.now }
@@ -24,9 +25,10 @@ impl Rank {
     }
 }
 
-/// The place of a slab in that order: the bits of its start (in steps of 128 s), its first leaf (in steps of
-/// `2^42` leaves) and its lowest altitude (in decimetres), the lowest 21 of each, in turn, the highest first
-/// (a Z-order curve), and in the last 64 bits its first leaf.
+/// The place of a slab in that order. Its upper 64 bits interleave the lowest 21 bits of three numbers, the
+/// highest first (a Z-order curve): the start in steps of 128 s, the first leaf in steps of `2^42` leaves,
+/// and the lowest altitude in decimetres. Its lower 64 bits are the first leaf. The start and the altitude
+/// are counted from the least number of their types, so that they aren't negative.
 pub(crate) fn place_of(slab: &Slab) -> u128
     ensures { result % 2 ^ 64 ≡ slab.now.first }
 {
@@ -37,14 +39,15 @@ pub(crate) fn place_of(slab: &Slab) -> u128
     joined(turns, slab.first)
 }
 
-// The number with the upper 64 bits `high` and the lower 64 bits `low`.
+// The number whose upper 64 bits are `high` and whose lower 64 bits are `low`.
 fn joined(high: u64, low: u64) -> u128
     ensures { result ≡ high * 2 ^ 64 + low }
 {
     (u128::from(high) << 64) | u128::from(low)
 }
 
-// Spreads the lowest 21 bits of a number: bit k becomes bit 3 * k, and all others are zero.
+// Spreads the lowest 21 bits of a number: bit k becomes bit 3 * k, and all others are zero. The clause says
+// only which bits are zero.
 #[tactic(auto, using(crate::proofs::OrderLemmas::masked))]
 fn spread(number: u64) -> u64
     ensures { bit_and result 0x1249_2492_4924_9249 ≡ result }

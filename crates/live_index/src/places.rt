@@ -1,4 +1,5 @@
-//! The places of each plan's volumes in the order of chunks.
+//! The places of each plan's volumes in the order of chunks (`place_of`), so that a plan's volumes are found
+//! without a search of all chunks.
 
 ghost use Rattle.std.specs.Prelude.{◌≡◌, ◌≤◌, [], length, None, IsSome, IfOk, OnOk};
 ghost use Rattle.live_index.specs.Live.{ArePlaced, key_of, AreNoFewer, OthersAreNoFewer, HasOneMore, list_of, places_in};
@@ -15,7 +16,7 @@ pub(crate) struct Places {
 }
 
 impl Places {
-    /// No places, of no plans.
+    /// The places of no plans.
     pub(crate) fn new(alloc: Global) -> Places
         ensures { result.plans.entries ≡ [] }
     {
@@ -24,7 +25,7 @@ impl Places {
         }
     }
 
-    /// The places of a plan's volumes; none if the plan is unknown.
+    /// The places of the volumes of the plan with this key; none if the plan isn't known.
     pub(crate) fn of(&self, key: &PlanKey) -> &[u128]
         ensures { length result.now ≡ places_in key.now self.now.plans.entries }
     {
@@ -38,7 +39,7 @@ impl Places {
     ///
     /// # Errors
     ///
-    /// `AllocError` if memory runs out; no place is lost then.
+    /// `AllocError` if memory runs out; all places stay then.
     pub(crate) fn add(&mut self, alloc: Global, live: &LiveVolume) -> Result<(), AllocError>
         ensures kept { AreNoFewer self.old.plans.entries self.new.plans.entries }
         ensures added { OnOk result (HasOneMore (key_of live.now) self.old.plans.entries
@@ -49,7 +50,7 @@ impl Places {
         push(&mut self.plans, &key, live.place)
     }
 
-    /// Removes all places of a plan, if it has any.
+    /// Removes all places of the plan with this key, if it has any.
     pub(crate) fn forget(&mut self, key: &PlanKey)
         ensures others { OthersAreNoFewer key.now self.old.plans.entries self.new.plans.entries }
         ensures gone { list_of key.now self.new.plans.entries ≡ None }
@@ -62,7 +63,8 @@ impl Places {
 
 type Lists = BTreeMap<PlanKey, Vec<u128>>;
 
-// Gives a plan an empty list of places, if it has no list. If memory runs out, the lists stay as they are.
+// Gives the plan with this key an empty list of places, if it has no list. If memory runs out, the lists stay
+// as they are.
 fn ensure_list(alloc: Global, plans: &mut Lists, key: &PlanKey) -> Result<(), AllocError>
     ensures kept { AreNoFewer plans.old.entries plans.new.entries }
     ensures has_list { OnOk result (IsSome (list_of key.now plans.new.entries)) }
@@ -74,7 +76,8 @@ fn ensure_list(alloc: Global, plans: &mut Lists, key: &PlanKey) -> Result<(), Al
     Ok(())
 }
 
-// Adds a place to the list of a plan, if it has one. If memory runs out, the list stays as it is.
+// Adds `place` to the list of the plan with this key; does nothing if it has no list. If memory runs out, the
+// list stays as it is.
 fn push(plans: &mut Lists, key: &PlanKey, place: u128) -> Result<(), AllocError>
     ensures kept { AreNoFewer plans.old.entries plans.new.entries }
     ensures added { OnOk result (IsSome (list_of key.now plans.old.entries)
@@ -86,7 +89,7 @@ fn push(plans: &mut Lists, key: &PlanKey, place: u128) -> Result<(), AllocError>
     Ok(())
 }
 
-/// The places of the volumes `lives`, by plan.
+/// The places of the volumes `lives`, listed by plan.
 ///
 /// # Errors
 ///

@@ -1,4 +1,8 @@
 //! Volumes of live plans, as an index has them.
+//!
+//! The bounds of a volume are the smallest slab that has its points. A search is for plans that are wanted:
+//! those of a least priority that `Wanted` doesn't leave out. A volume is near what is sought (`SearchArea`)
+//! if its bounds overlap one of the slabs sought.
 
 ghost use Rattle.std.specs.Prelude.{◌≡◌, IfOk};
 ghost use Rattle.desk_store.specs.Changes.{filed_by};
@@ -22,14 +26,15 @@ pub struct LiveVolume {
     pub(crate) priority: u32,
     // the smallest slab that has all its points
     pub(crate) bounds: Slab,
-    // an estimate of how many rows of spans the whole plan has, which no clause mentions
+    // an estimate of how many rows of `span2` the whole plan has, which no clause mentions: those of this
+    // volume, times the number of the plan's volumes
     pub(crate) rows: usize,
     // its place in the order of volumes (`place_of`), which only the clause of `rank` mentions
     pub(crate) place: u128,
 }
 
 impl LiveVolume {
-    /// The entry for `volume`, a volume of the operator's plan `row`.
+    /// The entry for `volume`, which is one of the volumes of the operator's plan `row`.
     ///
     /// # Errors
     ///
@@ -64,7 +69,7 @@ impl LiveVolume {
         operator.cmp(&self.operator).is_eq()
     }
 
-    /// The key of the volume's plan.
+    /// The key of the plan to which the volume belongs: its operator and its id.
     pub(crate) fn key(&self) -> PlanKey
         ensures { result ≡ spec.key_of self.now }
     {
@@ -74,7 +79,8 @@ impl LiveVolume {
         }
     }
 
-    /// The rank of the volume, by which volumes are divided into chunks: its place, and then its plan's key.
+    /// The rank of the volume, by which volumes are divided into chunks: the volume's place in the order of
+    /// volumes, and then its plan's key.
     pub(crate) fn rank(&self) -> Rank
         ensures place { result.place ≡ self.now.place }
         ensures plan { result.plan ≡ spec.key_of self.now }
@@ -82,8 +88,8 @@ impl LiveVolume {
         Rank::of(&self.key(), self.place)
     }
 
-    // Whether the volume belongs to a plan that `wanted` leaves out: that of its operator with its id, or any
-    // plan of its operator if it has no id.
+    // Whether the volume belongs to a plan that `wanted` leaves out: the operator's plan with the id
+    // `wanted.id`, or any plan of the operator if `wanted.id` is `None`.
     fn is_own(&self, wanted: &Wanted) -> bool
         ensures { result ≡ spec.is_own_volume wanted.now self.now }
     {
@@ -93,7 +99,8 @@ impl LiveVolume {
         }
     }
 
-    /// Whether the volume's plan is wanted, by its priority and its owner, and its bounds overlap `sought`.
+    /// Whether the volume's plan is wanted (it has at least the least priority, and `wanted` doesn't leave it
+    /// out) and its bounds overlap `sought`.
     pub(crate) fn is_near_to(&self, wanted: &Wanted, sought: &SearchArea) -> bool
         ensures { result ≡ spec.is_near_to wanted.now sought.now self.now }
     {
@@ -106,7 +113,7 @@ impl LiveVolume {
         !self.is_own(wanted)
     }
 
-    /// Whether the volume belongs to another operator than `operator`, and its bounds overlap `extent`.
+    /// Whether the volume belongs to an operator other than `operator`, and its bounds overlap `extent`.
     pub(crate) fn is_theirs(&self, operator: &Operator, extent: &Slab) -> bool
         ensures { result ≡ spec.is_theirs operator.now extent.now self.now }
     {

@@ -1,4 +1,7 @@
 //! The entry of an operator in the index, its account: its ceiling, and the states and sizes of its plans.
+//!
+//! The states of a plan are its usage (planned, in use or closed) and the state of its aircraft. Its sizes
+//! are how many spans it has (ranges of leaves along the S2 curve; none if it is closed) and how many cells.
 
 ghost use Rattle.std.specs.Prelude.{◌≡◌, ◌<◌, ◌≤◌, ◌+◌, ◌^◌, ◌++◌, ◌∷◌, [], not, map, take, drop, length, IfOk, OnOk};
 ghost use Rattle.std.specs.{List.filter, List.find, Option.option_map};
@@ -48,8 +51,8 @@ impl PlanState {
         ids.iter().any(|id| self.has_id(id))
     }
 
-    // The plan closed, if it has this id: with the usage `Closed`, no spans, and its cells as before. A plan
-    // with another id is returned unchanged.
+    // The plan closed, if it has this id: with the usage `Closed` and no spans. The state of its aircraft and
+    // its cells stay. A plan with another id is returned unchanged.
     fn close_if(&self, id: &PlanId) -> PlanState
         ensures { result ≡ spec.close_if id.now self.now }
     {
@@ -67,7 +70,7 @@ impl PlanState {
         }
     }
 
-    // The sizes of the plan, or no spans and no cells if it has this id.
+    // The sizes of the plan, or no spans and no cells if it has this id: sums leave that plan out.
     fn sizes_unless(&self, id: &PlanId) -> Sizes
         ensures spans { result.spans ≡ counted_unless (λ s. s.spans) id.now self.now }
         ensures cells { result.cells ≡ counted_unless (λ s. s.cells) id.now self.now }
@@ -92,7 +95,7 @@ pub(crate) struct OperatorEntry {
 }
 
 impl OperatorEntry {
-    /// The states of the plan with this id, or `None` if there is none.
+    /// The states of the plan with this id, or `None` if the operator has no such plan.
     pub(crate) fn states(&self, id: &PlanId) -> Option<States>
         ensures { result ≡ option_map (λ s. s.states) (find (state_has_id id.now) self.now.plans.items) }
     {
@@ -100,8 +103,8 @@ impl OperatorEntry {
         Some(found.states)
     }
 
-    /// The sizes of the operator's plans without the one with this id. A number that exceeds 32 bits becomes
-    /// `u32::MAX`.
+    /// The sizes of all the operator's plans together, without the plan with this id. A number that exceeds
+    /// 32 bits becomes `u32::MAX`.
     pub(crate) fn sizes_beside(&self, id: &PlanId) -> Sizes
         ensures spans { state_spans_beside id.now self.now.plans.items < 2 ^ 32
             → result.spans ≡ state_spans_beside id.now self.now.plans.items }
@@ -115,7 +118,7 @@ impl OperatorEntry {
         sizes
     }
 
-    /// Sets the ceiling, unless the operator has one already.
+    /// Sets the ceiling, unless the operator has one already: the first one stays.
     pub(crate) fn set_first_ceiling(&mut self, ceiling: u32)
         ensures ceiling { self.new.ceiling ≡ or_else self.old.ceiling ceiling }
         ensures plans { self.new.plans.items ≡ self.old.plans.items }
@@ -125,7 +128,7 @@ impl OperatorEntry {
         }
     }
 
-    /// Appends the plan `row`. Its id has to come after those of the other plans.
+    /// Appends the plan `row`. Its id has to come after those of the other plans, since they ascend by id.
     ///
     /// # Errors
     ///
@@ -139,7 +142,8 @@ impl OperatorEntry {
         Ok(())
     }
 
-    /// Reserves capacity for one more plan, which `apply_change` needs.
+    /// Reserves capacity for one more plan, which `apply_change` needs. The plans stay as they are, even if
+    /// this fails.
     ///
     /// # Errors
     ///
@@ -152,8 +156,8 @@ impl OperatorEntry {
         self.plans.reserve(1)
     }
 
-    /// Updates the entry after a change of the operator's ceiling or plans. There is capacity for one more
-    /// plan, so this can't fail.
+    /// Updates the entry after `change`, a change of this operator's ceiling or plans. `make_room` has
+    /// reserved capacity for one more plan, so this can't fail.
     pub(crate) fn apply_change(&mut self, change: &Change)
         requires { HasRoomForOne self.old }
         ensures ceiling { self.new.ceiling ≡ ceiling_after change.now self.old.ceiling }
@@ -168,8 +172,8 @@ impl OperatorEntry {
     }
 }
 
-// Replaces the plan with the id of `state`, or inserts it in order. There is capacity for it, so `insert`
-// can't fail.
+// Replaces the plan with the id of `state`, or inserts it where its id belongs. There is capacity for it, so
+// `insert` can't fail.
 fn put(plans: &mut Vec<PlanState>, state: PlanState)
     requires { length plans.old.items + 1 ≤ plans.old.cap }
     ensures { plans.new.items ≡ put_state state plans.old.items }
@@ -184,8 +188,8 @@ fn put(plans: &mut Vec<PlanState>, state: PlanState)
     }
 }
 
-// The index at which `state` belongs among `plans`: that of the first plan whose id is not less, or their
-// number.
+// The index at which `state` belongs among `plans`, which ascend by id: that of the first plan whose id is
+// not less than that of `state`, or their number if there is none.
 fn place_of(plans: &[PlanState], state: &PlanState) -> usize
     ensures within { result ≤ length plans.now }
     ensures place { put_state state.now plans.now
@@ -206,7 +210,7 @@ fn is_at(plans: &[PlanState], at: usize, state: &PlanState) -> bool
     plans.get(at).is_some_and(|plan| plan.has_id(&state.id))
 }
 
-// Closes the plan with this id, if there is one. It stays in its place.
+// Closes the plan with this id, if there is one. The plan keeps its index.
 fn close(plans: &mut Vec<PlanState>, id: &PlanId)
     ensures { plans.new.items ≡ map (close_if id.now) plans.old.items }
 {

@@ -1,4 +1,4 @@
-//! An enrolled operator.
+//! An enrolled operator with its ceiling.
 
 use desk_rules::operator::Operator;
 use std::marker::Model;

@@ -1,4 +1,9 @@
 //! The index of operators.
+//!
+//! The states of a plan are its usage (planned, in use or closed) and the state of its aircraft. Its sizes
+//! are how many spans it has (ranges of leaves along the S2 curve; none if it is closed) and how many cells.
+//! The ceiling of an operator is the maximum priority that it may use. An operator whose entry has no ceiling
+//! isn't enrolled.
 
 ghost use Rattle.std.specs.Prelude.{◌≡◌, ◌++◌, ◌∷◌, ◌<◌, ◌^◌, [], List, length, IsSome, IfOk, OnOk};
 ghost use Rattle.std.specs.{List.Sorted.IsStrictlySortedBy, Option.is_some};
@@ -41,7 +46,8 @@ impl OperatorIndex {
         account.ceiling
     }
 
-    /// The enrolled operators with their ceilings, ascending by name, each once, in memory from `alloc`.
+    /// The enrolled operators with their ceilings, ascending by name, each once. The list is allocated from
+    /// `alloc`.
     ///
     /// # Errors
     ///
@@ -57,7 +63,7 @@ impl OperatorIndex {
         Ok(listed)
     }
 
-    /// The states of the operator's plan with this id, or `None` if there is none.
+    /// The states of the operator's plan with this id, or `None` if it has no such plan.
     pub fn states(&self, operator: &Operator, id: &PlanId) -> Option<States>
         ensures { (w : World) → IsIndexOf w self.now
             → result ≡ states_of (stored_of id.now (plans_of operator.now w)) }
@@ -66,7 +72,8 @@ impl OperatorIndex {
         account.states(id)
     }
 
-    /// How many plans the operator has, closed ones included; `u32::MAX` if 32 bits can't count them.
+    /// How many plans the operator has, closed ones included: 0 if it isn't known, `u32::MAX` if 32 bits
+    /// can't count them.
     pub fn count(&self, operator: &Operator) -> u32
         ensures { (w : World) → IsIndexOf w self.now → length (plans_of operator.now w) < 2 ^ 32
             → result ≡ length (plans_of operator.now w) }
@@ -77,8 +84,8 @@ impl OperatorIndex {
         }
     }
 
-    /// The sizes of the operator's plans without the one with this id. A number that exceeds 32 bits becomes
-    /// `u32::MAX`.
+    /// The sizes of all the operator's plans together, without the plan with this id. A number that exceeds
+    /// 32 bits becomes `u32::MAX`.
     pub fn sizes_beside(&self, operator: &Operator, id: &PlanId) -> Sizes
         ensures spans { (w : World) → IsIndexOf w self.now
             → spans_beside id.now (plans_of operator.now w) < 2 ^ 32
@@ -108,7 +115,8 @@ impl OperatorIndex {
         make_room(&mut self.accounts, operator)
     }
 
-    /// Updates the index after a change. `prepare` has reserved the memory for it, so this can't fail.
+    /// Updates the index after the store has made `change`. `prepare` has reserved the memory for it, so this
+    /// can't fail.
     pub fn update_after(&mut self, change: &Change)
         requires { IsReadyFor change.now self.old }
         ensures { (w : World) → IsIndexOf w self.old → IsIndexOf (changed_by change.now w) self.new }
@@ -122,8 +130,8 @@ impl OperatorIndex {
 // ---- opening
 
 impl OperatorIndex {
-    /// Lists an operator with its ceiling: an opening does so for each row of operators that it reads. An
-    /// operator that is listed already keeps its ceiling.
+    /// Adds an operator with its ceiling: an opening does so for each row of operators that it reads. An
+    /// operator that has a ceiling already keeps that.
     ///
     /// # Errors
     ///
@@ -145,8 +153,8 @@ impl OperatorIndex {
         Ok(())
     }
 
-    /// Files the plan `row` after the other plans of its operator. Plans have to be filed in ascending order
-    /// of their ids.
+    /// Appends the plan `row` to the plans of its operator. The plans of an operator have to come in
+    /// ascending order of their ids.
     ///
     /// # Errors
     ///
@@ -173,6 +181,7 @@ impl OperatorIndex {
 type Accounts = BTreeMap<Operator, OperatorEntry>;
 
 // Appends an operator to `listed` if it has a ceiling. One without a ceiling is not enrolled and is left out.
+// If memory runs out, the error is `AllocError`.
 fn push_listed(
     listed: &mut Vec<ListedOperator>,
     operator: &Operator,
@@ -190,7 +199,7 @@ fn push_listed(
 }
 
 // Gives an operator an empty entry, if it has none. An empty entry has no ceiling and no plans, so the index
-// stays right.
+// stays right, even if memory runs out.
 fn ensure_account(
     alloc: Global,
     accounts: &mut Accounts,
@@ -213,7 +222,8 @@ fn ensure_account(
     Ok(())
 }
 
-// Reserves capacity for one more plan in an operator's entry, if it has one.
+// Reserves capacity for one more plan in an operator's entry; does nothing if it has none. The index stays
+// right, even if memory runs out.
 fn make_room(accounts: &mut Accounts, operator: &Operator) -> Result<(), AllocError>
     ensures kept { (ls : List Listed) (ps : List Filed) → AreAccountsOf ls ps accounts.old.entries
         → AreAccountsOf ls ps accounts.new.entries }
@@ -226,7 +236,7 @@ fn make_room(accounts: &mut Accounts, operator: &Operator) -> Result<(), AllocEr
     }
 }
 
-// The operator whose ceiling or plans a change concerns.
+// The operator whose ceiling or plans `change` concerns.
 fn changed_operator(change: &Change) -> &Operator
     ensures { result.now ≡ spec.changed_operator change.now }
 {

@@ -1,4 +1,6 @@
-//! The canonical covers of volumes, as bytes.
+//! The canonical covers of volumes, as bytes for the column `canon` of `volume2`. The canonical cover of a
+//! volume has the fewest S2 cells whose leaves (cells of level 30) are exactly those of the volume's
+//! footprint.
 
 ghost use Rattle.std.specs.Prelude.{◌≡◌, IfOk, map};
 ghost use Rattle.std.specs.{List.flat_map, Int.w64, Int.to_be_bytes};
@@ -17,14 +19,14 @@ use volume4d::Volume;
 pub fn canon_of(alloc: Global, volume: &Volume) -> Result<Vec<u8>, AllocError>
     ensures { IfOk result (λ bytes. bytes.items ≡ canon_bytes volume.now.footprint) }
 {
-    // For the contract alone: the cells of a cover are the canonical list.
+    // Laws, which change nothing: the cells of a cover are the canonical list of its leaves.
     one_canonical_list();
     canonical_list_is();
     let cover = volume.cover()?;
     ids_of(alloc, cover.cells())
 }
 
-/// The canonical cover of each of `volumes` as bytes, as `canon_of` returns it.
+/// The canonical covers of `volumes`, in the same order, each as the bytes that `canon_of` returns.
 ///
 /// # Errors
 ///
@@ -39,7 +41,7 @@ pub fn canons_of(alloc: Global, volumes: &[Volume]) -> Result<Vec<Vec<u8>>, Allo
     Ok(canon)
 }
 
-// The ids of `cells`, each as eight big-endian bytes.
+// The ids of `cells`, in the same order, each as eight big-endian bytes.
 fn ids_of(alloc: Global, cells: &[CellId]) -> Result<Vec<u8>, AllocError>
     ensures { IfOk result (λ bytes. bytes.items ≡ flat_map (λ id. to_be_bytes w64 id) cells.now) }
 {

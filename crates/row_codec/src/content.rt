@@ -1,4 +1,6 @@
-//! The state of a database, from all rows of its tables.
+//! The state of a database, from all rows of its tables: the operators with their ceilings, and all plans.
+//! Columns of rows are counted from 0. The key of an operator is its name, that of a plan its operator and
+//! id, and that of a volume these and its place (its number in the plan).
 
 ghost use Rattle.std.specs.Prelude.{◌≡◌, ◌↔◌, ◌≤◌, List, IsTrue, IfOk, IfErr, length};
 ghost use Rattle.std.specs.{List.prefix_len, List.Sorted.IsStrictlySortedBy};
@@ -18,7 +20,8 @@ use sqlite_value::value::ValueRef;
 use std::alloc::{AllocError, AllocFailed, Global};
 use std::marker::Model;
 
-/// The rows of the tables, each ordered by its key; those of `volume2` without their covers.
+/// The rows of the tables, those of each table ordered by its key. `volumes` has those of `volume2` without
+/// their covers, or those of `volume` in schema 1.
 #[derive(Drop)]
 pub struct TableRows {
     pub operators: Vec<Row>,
@@ -70,6 +73,7 @@ impl From<AllocError> for RowFault {
 
     ghost from_gives = { λ _ e. e ≡ OutOfMemory };
 
+    // An allocation failed, so memory ran out.
     fn from(_e: AllocError) -> RowFault {
         RowFault::OutOfMemory
     }
@@ -81,12 +85,14 @@ impl<T: Drop> From<AllocFailed<T>> for RowFault {
 
     ghost from_gives = { λ _ e. e ≡ OutOfMemory };
 
+    // A `Vec` couldn't grow, so memory ran out. The value that was to be added is dropped.
     fn from(_e: AllocFailed<T>) -> RowFault {
         RowFault::OutOfMemory
     }
 }
 
-/// The operators whose rows of `operator` are `rows`.
+/// The operators whose rows of `operator` are `rows`, in the same order. Whether they ascend by name isn't
+/// checked.
 ///
 /// # Errors
 ///
@@ -106,11 +112,12 @@ pub fn operators_in(alloc: Global, rows: &[Row]) -> Result<Vec<ListedOperator>, 
 }
 
 /// The plans whose rows of `plan` are `head_rows`, and whose rows of volumes are `volumes`, both ordered by
-/// key.
+/// key. Whether the plans ascend by key isn't checked.
 ///
 /// # Errors
 ///
-/// `OutOfMemory` if memory runs out. `InvalidRows` if they aren't the rows of plans within the limits.
+/// `OutOfMemory` if memory runs out. `InvalidRows` only if no plans within the limits, ascending by key, have
+/// these rows.
 pub fn plans_in(
     alloc: Global,
     head_rows: &[Row],
@@ -137,7 +144,7 @@ pub fn plans_in(
 }
 
 // How many rows at the beginning of `rows` are of volumes of the plan whose row of `plan` is `head`; 0 if the
-// key of `head` isn't two texts.
+// key of `head` (columns 0 and 1) isn't two texts.
 fn count_own_volumes(head: &Row, rows: &[Row]) -> usize
     ensures of { (p : Filed) → head.now ≡ row_of_plan p →
         result ≡ prefix_len (spec.is_row_of p.operator (id_text p.row.id)) rows.now }
@@ -150,7 +157,8 @@ fn count_own_volumes(head: &Row, rows: &[Row]) -> usize
     count_of(rows, operator, id)
 }
 
-// How many rows at the beginning of `rows` are of the operator's plan `id`.
+// How many rows at the beginning of `rows` are of the operator's plan `id`. `operator` (a name) and `id` are
+// the bytes of texts.
 #[tactic(auto, using(crate::proofs::JoinLemmas::within))]
 fn count_of(rows: &[Row], operator: &[u8], id: &[u8]) -> usize
     ensures value { result ≡ prefix_len (spec.is_row_of operator.now id.now) rows.now }
@@ -161,14 +169,15 @@ fn count_of(rows: &[Row], operator: &[u8], id: &[u8]) -> usize
         .count()
 }
 
-// Whether `row` is of the operator's plan `id`, by its first two columns.
+// Whether `row` is of the operator's plan `id`, by columns 0 and 1. `operator` (a name) and `id` are the
+// bytes of texts.
 fn is_of(row: &Row, operator: &[u8], id: &[u8]) -> bool
     ensures { result ≡ spec.is_row_of operator.now id.now row.now }
 {
     is_text(row, 0, operator) && is_text(row, 1, id)
 }
 
-// Whether the column `at` is the text `text`.
+// Whether the column `at` is the text whose bytes are `text`.
 fn is_text(row: &Row, at: usize, text: &[u8]) -> bool
     ensures { result ≡ spec.has_text (column row.now at) text.now }
 {
@@ -227,6 +236,7 @@ fn key_is_below(one: &FiledPlan, others: &[FiledPlan]) -> bool
 }
 
 /// Whether each plan's operator is among `operators`, and none of these has more than `MAX_PLANS` plans.
+/// Operators and plans are ordered by their keys.
 pub fn have_operators_and_room(operators: &[ListedOperator], plans: &[FiledPlan]) -> bool
     requires names { IsStrictlySortedBy listed_cmp operators.now }
     requires keys { IsStrictlySortedBy filed_cmp plans.now }

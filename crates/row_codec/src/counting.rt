@@ -1,4 +1,7 @@
-//! How many spans, and how many cells, the plans of one operator have at most.
+//! How many spans, and how many cells, the operator with the most of them has. A plan has a span for each
+//! range of leaves (S2 cells of level 30, in their order along the curve) of each of its volumes, as long as
+//! it is live, that is, not closed: a span is a row of `span2`. A plan has the cells of its cell lists, and
+//! those that cover its rectangles; a closed plan keeps them.
 
 ghost use Rattle.std.specs.Prelude.{◌≡◌, ◌*◌, ◌≤◌, ◌⊎◌, ℕ, List, length};
 ghost use Rattle.std.specs.{List.sum_by, List.Sorted.IsStrictlySortedBy};
@@ -19,8 +22,9 @@ pub enum Counted {
     Cells,
 }
 
-/// The greatest number of spans, or of cells, that one operator's plans have together; 0 without plans.
-/// `plans` are ordered by operator and id, so that those of one operator follow each other.
+/// The greatest number of spans, or of cells, as `counted` says, that the plans of one operator have
+/// together; 0 without plans. `plans` are ordered by operator and id, so that those of one operator follow
+/// each other.
 pub fn most_of(counted: Counted, plans: &[FiledPlan]) -> usize
     requires keys { IsStrictlySortedBy filed_cmp plans.now }
     requires few { (operator : List ℕ) → length (rows_by operator plans.now) ≤ max_plans }
@@ -44,7 +48,7 @@ fn max_of(one: usize, other: usize) -> usize
     if one < other { other } else { one }
 }
 
-// How many spans, or cells, `plans` have together. They are the plans of one operator.
+// How many spans, or cells, `plans` have together. They are at most 200: the plans of one operator.
 fn sum_of(counted: Counted, plans: &[FiledPlan]) -> usize
     requires { length plans.now ≤ max_plans }
     ensures { result ≡ sum_by (λ p. count_of counted p.row) plans.now }
@@ -56,7 +60,7 @@ fn sum_of(counted: Counted, plans: &[FiledPlan]) -> usize
     sum
 }
 
-// How many spans, or cells, a plan has.
+// How many spans, or cells, `plan` has. A closed plan has no spans.
 fn count_in(counted: Counted, plan: &FiledPlan) -> usize
     ensures value { result ≡ count_of counted plan.now.row }
     ensures few { result ≤ max_volumes * max_cover }

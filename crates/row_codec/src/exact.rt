@@ -1,4 +1,5 @@
-//! Operators and plans read from rows that have to be exactly those that the desk writes.
+//! Operators and plans read from rows that have to be exactly those that the desk writes. Columns are counted
+//! from 0.
 
 ghost use Rattle.std.specs.Prelude.{◌≡◌, ◌≢◌, ◌≤◌, ◌↔◌, ℕ, List, pos, IsTrue, IfOk, IfErr, MatchOption};
 ghost use Rattle.std.specs.List.{AllZip};
@@ -46,6 +47,7 @@ impl From<StoreFault> for RowFault {
 
     ghost from_gives = { λ fault e. e ≡ row_fault_of fault };
 
+    // A read failed because memory ran out, or because a row isn't one that a store writes.
     fn from(fault: StoreFault) -> RowFault {
         match fault {
             StoreFault::OutOfMemory => RowFault::OutOfMemory,
@@ -69,7 +71,7 @@ impl Model for FiledPlan {
     ghost view = { λ p. record { operator = p.operator; row = p.row } };
 }
 
-/// The operator with its ceiling whose row of `operator` is `row`.
+/// The operator, with its ceiling, whose row in the table `operator` is `row`.
 ///
 /// # Errors
 ///
@@ -87,9 +89,9 @@ pub(crate) fn listed_in(row: &Row) -> Result<ListedOperator, RowFault>
     Ok(ListedOperator { operator, ceiling })
 }
 
-/// The plan whose row of `plan` is `head`, and whose rows of `volume2`, or of `volume` in schema 1, are
-/// `volumes`, ordered by place: the fourth column of these is `lower`. The ranges of leaves of a closed plan
-/// are dropped, since it has no spans.
+/// The plan whose row in the table `plan` is `head`, and whose rows in `volume2`, or in `volume` of schema 1,
+/// are `volumes`, ordered by place: a volume begins at column 3 (`lower`). The ranges of leaves of a closed
+/// plan are dropped to save memory, since it has no spans.
 ///
 /// # Errors
 ///
@@ -117,7 +119,7 @@ pub(crate) fn filed_in(alloc: Global, head: &Row, volumes: &[Row]) -> Result<Fil
     Ok(plan)
 }
 
-/// The operator whose name is in the first column of `row`; none if that isn't a valid name.
+/// The operator whose name is in column 0 of `row`; `None` if that isn't a text, or isn't a valid name.
 pub fn operator_in(row: &Row) -> Option<Operator>
     ensures { MatchOption result
         ((name : List ℕ) → IsTrue (is_operator_name name) → column row.now 0 ≢ Text name)
@@ -145,7 +147,7 @@ fn are_rows_of(plan: &FiledPlan, head: &Row, volumes: &[Row]) -> bool
 }
 
 // Whether `rows`, from which the volumes of `plan` were read, are exactly the rows of these, at the places 0,
-// 1, ..; `id` is the plan's id as text.
+// 1 and so on; `id` is the plan's id as text.
 fn are_volume_rows(plan: &FiledPlan, id: &str, rows: &[Row]) -> bool
     requires id { id.now ≡ id_text plan.now.row.id }
     requires area { AllZip (λ row v. IsVolumeAt row 3 v) rows.now plan.now.row.area }
@@ -160,7 +162,8 @@ fn are_volume_rows(plan: &FiledPlan, id: &str, rows: &[Row]) -> bool
 }
 
 // Whether `row`, from which a volume was read, is exactly the row of that volume at `place` of `plan`; `id`
-// is the plan's id as text.
+// is the plan's id as text. Columns 0 to 2 and the number of columns are compared: the volume was read from
+// the rest.
 fn is_volume_row(plan: &FiledPlan, id: &str, place: usize, row: &Row) -> bool
     requires id { id.now ≡ id_text plan.now.row.id }
     ensures { (v : Block) → IsVolumeAt row.now 3 v →
@@ -172,8 +175,9 @@ fn is_volume_row(plan: &FiledPlan, id: &str, place: usize, row: &Row) -> bool
     is_count_at(row, 2, place as u64)
 }
 
-/// Whether `row` is exactly the row of `slab`, which is of the volume at `place` of `plan`; `id` is the
-/// plan's id as text.
+/// Whether `row` is exactly the row that `span2`, or `span` of schema 1, has for `slab` as a slab of the
+/// volume at `place` of `plan`; whether it is one isn't checked. `id` is the plan's id as text. Columns: 0
+/// operator, 1 id, 2 place, 3 and 4 leaves, 5 to 8 altitudes and times, 9 priority.
 pub fn is_slab_row(plan: &FiledPlan, id: &str, place: usize, slab: &Slab, row: &Row) -> bool
     requires id { id.now ≡ id_text plan.now.row.id }
     ensures { IsTrue result ↔ (row.now ≡ slab_row plan.now place slab.now) }
@@ -193,7 +197,7 @@ pub fn is_slab_row(plan: &FiledPlan, id: &str, place: usize, slab: &Slab, row: &
     is_count_at(row, 9, u64::from(plan.row.priority))
 }
 
-// Whether the columns `first` and `last` of a row of spans, its fourth and fifth, are the leaves of `slab`.
+// Whether `first` and `last` (columns 3 and 4) of a row of spans are the leaf positions of `slab`.
 fn has_leaves_of(row: &Row, slab: &Slab) -> bool
     ensures { IsTrue result ↔ ((column row.now 3 ≡ Int (pos slab.now.first))
         × (column row.now 4 ≡ Int (pos slab.now.last))) }
@@ -201,14 +205,15 @@ fn has_leaves_of(row: &Row, slab: &Slab) -> bool
     is_count_at(row, 3, slab.first) && is_count_at(row, 4, slab.last)
 }
 
-/// Whether `row` has `width` columns and begins with the name `operator` and the text `id`.
+/// Whether `row` has `width` columns, of which the first two are the texts `operator` (a name) and `id`.
 pub fn is_keyed(row: &Row, operator: &str, id: &str, width: usize) -> bool
     ensures { IsTrue result ↔ IsKeyed operator.now id.now width row.now }
 {
     row.column_count() == width && is_text_at(row, 0, operator) && is_text_at(row, 1, id)
 }
 
-// Whether the four columns from `at` on are the altitudes and times of `slab`.
+// Whether the four columns from `at` on (`lower`, `upper`, `start`, `stop`) are the altitudes and times of
+// `slab`.
 fn is_window_at(row: &Row, at: usize, slab: &Slab) -> bool
     requires { at ≤ 5 }
     ensures { IsTrue result ↔ IsWindowAt row.now at (slab_window slab.now) }

@@ -1,4 +1,5 @@
-//! The database state that a store keeps, for contracts alone.
+//! The database state that a store keeps, for contracts alone. At run time a `GhostState` holds nothing, and
+//! the functions that make one compute nothing: the proof of each says what its `world` is.
 
 ghost use Rattle.std.specs.Prelude.{◌≡◌, []};
 ghost use Rattle.std.specs.Borrow.{ftrue};
@@ -26,14 +27,14 @@ impl GhostState {
         GhostState {}
     }
 
-    /// The state that `_change` makes of `_before`.
+    /// The state that `_change` makes of `_before`. Only the contract reads these two.
     pub fn after(_before: &GhostState, _change: &Change) -> GhostState
         ensures { result.world ≡ changed_by _change.now _before.now.world }
     {
         GhostState {}
     }
 
-    /// The state that was read into `_content`.
+    /// The state that was read into `_content`, which only the contract reads.
     pub fn of(_content: &Content) -> GhostState
         ensures { result.world ≡ _content.now }
     {

@@ -1,4 +1,4 @@
-//! What a store keeps of its plans in memory.
+//! What a store keeps of its plans in memory, so that it reads fewer rows. A plan is live until it is closed.
 
 ghost use Rattle.std.specs.Prelude.{◌≡◌, [], length, IfOk, OnOk};
 ghost use Rattle.std.specs.List.Sorted.{IsStrictlySortedBy};
@@ -14,8 +14,9 @@ use live_index::{LiveIndex, LiveIndexBuilder, LiveVolume};
 use operator_index::{ListedOperator, OperatorIndex};
 use std::alloc::{AllocError, Global};
 
-/// The indexes in memory: bounds of the spans of live plans, the volumes of live plans, and the operators
-/// with their ceilings and the ids, states and sizes of their plans.
+/// The indexes in memory: bounds of the spans of live plans, the volumes of live plans, and in `roll` the
+/// operators with their ceilings and the ids, states (usage and aircraft) and sizes (spans and cells) of
+/// their plans.
 #[derive(Drop)]
 pub struct MemoryIndex {
     pub span_bounds: SpanBounds,
@@ -36,11 +37,12 @@ impl MemoryIndex {
     }
 
     /// Allocates what `update_after` needs for `change`, so that `update_after` can't fail; returns the live
-    /// volumes that the change adds.
+    /// volumes that the change adds. The indexes stay those of the state before the change, also after an
+    /// error.
     ///
     /// # Errors
     ///
-    /// `AllocError` if memory runs out. The indexes are still those of the same state.
+    /// `AllocError` if memory runs out.
     pub fn prepare(&mut self, alloc: Global, change: &Change) -> Result<Vec<LiveVolume>, AllocError>
         ensures kept { (w : World) → Knows self.old w → Knows self.new w }
         ensures added { IfOk result (λ fresh. AreAddedBy change.now fresh.items) }
@@ -83,7 +85,7 @@ pub fn live_index_of(alloc: Global, plans: &[FiledPlan]) -> Result<LiveIndex, Al
     builder.finish(alloc)
 }
 
-/// The index of `operators` and their `plans`.
+/// The index of `operators`, with their ceilings, and of their `plans`, which are ordered by operator and id.
 ///
 /// # Errors
 ///
@@ -102,7 +104,7 @@ pub fn operator_index_of(
     Ok(roll)
 }
 
-// The index of `operators`, without plans.
+// The index of `operators`, with their ceilings, before any plan is added.
 fn roll_without_plans(
     alloc: Global,
     operators: &[ListedOperator],

@@ -1,4 +1,6 @@
-//! Conversion of plans, operators and whole database states to rows of the tables, and back.
+//! Conversion of plans, operators and whole database states to rows of the tables, and back. Schema 2 has the
+//! tables `operator`, `plan`, `volume2` and `span2`; the older schema 1 has `volume` and `span` instead of
+//! the last two.
 #![tactic(auto)]
 
 pub mod canon;

@@ -1,4 +1,7 @@
-//! Plans with their volumes, read one row at a time from a join of `plan` and `volume2`.
+//! Plans with their volumes, read one row at a time from a join of `plan` and `volume2`. A row has the
+//! columns `operator`, `id`, `priority`, `usage`, `aircraft`, `place`, `lower`, `upper`, `start`, `stop`,
+//! `asked`, counted from 0. `place` is the number of the volume in its plan, counted from 0, and `asked` its
+//! footprint.
 
 ghost use Rattle.std.specs.Prelude.{◌≡◌, ◌↔◌, ◌⊎◌, [], ◌∷◌, List, IfErr, IfOk, IsSomeAnd, OnOk, map};
 ghost use Rattle.std.specs.List.{AllByRecursion};
@@ -19,7 +22,7 @@ use std::mem;
 use volume4d::{Area, Volume};
 
 /// A visitor of the rows of plans with their volumes that collects the plans. The rows of a plan follow each
-/// other, one for each volume.
+/// other, one for each volume, ordered by place.
 #[derive(Drop)]
 pub struct PlanCollector {
     alloc: Global,
@@ -42,8 +45,9 @@ impl PlanCollector {
         }
     }
 
-    // Adds the plan of the last row, if there is one, to `plans`, now that its volumes are complete. `Store`
-    // if these aren't the volumes of an area.
+    // Adds the plan of the last row, if there was a row, to `plans`: its volumes are complete. No volumes are
+    // left in `volumes`, also after an error. `Store` if the plan has none, or more than 32; `OutOfMemory` if
+    // memory runs out.
     fn finish_plan(&mut self) -> Result<(), StoreFault>
         ensures plans { OnOk result (self.new.plans.items
             ≡ closed_plans self.old.plans.items self.old.head self.old.volumes.items) }
@@ -59,7 +63,8 @@ impl PlanCollector {
         Ok(self.plans.push(head.with(area))?)
     }
 
-    // Finishes the plan of the row before, and begins the plan whose first row is `row`.
+    // Finishes the plan of the row before, if there was one, and begins the plan whose first row is `row`.
+    // Its volume isn't added yet. `Store` as by `finish_plan`, or if `row` isn't that of a plan.
     fn begin_plan(&mut self, row: &Row) -> Result<(), StoreFault>
         ensures plans { OnOk result (self.new.plans.items
             ≡ closed_plans self.old.plans.items self.old.head self.old.volumes.items) }
@@ -74,8 +79,9 @@ impl PlanCollector {
         Ok(())
     }
 
-    // Adds the volume in `row`, whose column `lower` is the seventh, to its plan. `Store` if the row has no
-    // volume, or if the first row of its plan is missing.
+    // Adds the volume in `row`, from column 6 (`lower`) on, to its plan. A row whose place isn't above 0
+    // begins a plan. `Store` if the row has no valid volume, if it continues a plan but none was begun, or as
+    // by `begin_plan`; `OutOfMemory` if memory runs out.
     fn add(&mut self, row: &Row) -> Result<(), StoreFault>
         ensures leads { OnOk result ((ps : List Filed) (left : List Values)
             → AllByRecursion (λ p. IsPlan p.row) ps
@@ -93,11 +99,11 @@ impl PlanCollector {
         Ok(())
     }
 
-    /// The plans of all rows, once the last row was passed.
+    /// The plans of all rows, in the same order, once the last row was passed.
     ///
     /// # Errors
     ///
-    /// `OutOfMemory` if memory runs out. `Store` if the volumes of the last plan aren't those of an area.
+    /// `OutOfMemory` if memory runs out. `Store` if the last plan has no volumes, or more than 32.
     pub fn finish(mut self) -> Result<Vec<PlanRow>, StoreFault>
         ensures value { IfOk result (λ plans. (ps : List Filed)
             → AllByRecursion (λ p. IsPlan p.row) ps
@@ -122,6 +128,8 @@ impl RowVisitor for PlanCollector {
 
     ghost refuses = { λ taken row e. (e ≡ SqliteFailure OutOfMemory) ⊎ BeginNoListing taken row };
 
+    // Adds the row to its plan. It fails with `OutOfMemory` if memory runs out, and with `DatabaseCorrupt` if
+    // no list of plans has such a row after those before.
     fn take(&mut self, row: &Row) -> Result<(), Error> {
         match self.add(row) {
             Ok(()) => Ok(()),
@@ -130,7 +138,8 @@ impl RowVisitor for PlanCollector {
     }
 }
 
-/// The error that a visitor returns for `fault`: `OutOfMemory` if memory ran out, else `DatabaseCorrupt`.
+/// The error that a visitor returns for `fault`: `OutOfMemory` if memory ran out, else `DatabaseCorrupt`,
+/// which the reader that gets it reports as `Store` again.
 pub(crate) fn error_of(fault: StoreFault) -> Error
     ensures { (result ≡ Error.SqliteFailure ErrorCode.OutOfMemory) ↔ (fault ≡ StoreFault.OutOfMemory) }
 {
@@ -140,7 +149,8 @@ pub(crate) fn error_of(fault: StoreFault) -> Error
     }
 }
 
-// Whether `row` is of another volume than the first of its plan: its sixth column, `place`, is above 0.
+// Whether `row` is of a later volume of its plan than the first: its `place` (column 5) is an integer above
+// 0.
 fn is_later(row: &Row) -> bool
     ensures { result ≡ spec.is_later row.now }
 {

@@ -1,4 +1,6 @@
-//! The rows of a plan, as they are written to the tables.
+//! The rows of a plan, as they are written to the tables. A plan's id is text there, hyphenated and in lower
+//! case, and a volume has a place: its number in the plan, counted from 0. Span bounds hold for a span if the
+//! queries that they give find its row.
 
 ghost use Rattle.std.specs.Prelude.{◌≡◌, ◌≤◌, ◌<◌, ◌+◌, ◌^◌, ℕ, pos, IfOk, map};
 ghost use Rattle.std.specs.{List.AllByRecursion, String.string_bytes};
@@ -65,8 +67,8 @@ fn text_of(alloc: Global, id: &PlanId) -> Result<String, AllocError>
     String::from_str(alloc, id.encode(&mut buffer))
 }
 
-/// The footprints of `volumes` as bytes, for the column `asked`. The contract also says that the volumes are
-/// within the limits.
+/// The footprints of `volumes`, in the same order, as bytes for the column `asked`. The contract also says
+/// that the volumes are within the limits.
 ///
 /// # Errors
 ///
@@ -87,13 +89,14 @@ fn asked_bytes(alloc: Global, volume: &Volume) -> Result<Vec<u8>, AllocError>
     ensures value { IfOk result (λ bytes. bytes.items ≡ footprint_bytes volume.now.footprint) }
     ensures valid { IfOk result (λ bytes. IsValidVolume volume.now) }
 {
-    // For its contract alone: the window of a volume is valid.
+    // Called for its contract alone: the window (altitudes and times) of a volume is valid.
     let _window = volume.window();
     volume.footprint().to_bytes(alloc)
 }
 
-/// The rows of a plan's volumes, at the places 0, 1, ..; `operator` is its operator's name, and `id` its id
-/// as text. `asked` and `canon` have the bytes of each volume's footprint and canonical cover.
+/// The rows of `volume2` for `plan`, one for each volume in order, at the places 0, 1 and so on. `operator`
+/// is the name of the plan's operator, and `id` the plan's id as text. `asked` and `canon` have, for each
+/// volume, the bytes of its footprint and of its canonical cover.
 ///
 /// # Errors
 ///
@@ -153,8 +156,8 @@ fn volume_row<'a>(
     }
 }
 
-/// The rows of a plan's spans: one for each range of leaves of each of its volumes while it is live, and none
-/// once it is closed. `operator` is its operator's name, and `id` its id as text.
+/// The rows of `span2` for `plan`: one for each range of leaves of each volume if the plan is live, and none
+/// if it is closed. `operator` is the name of the plan's operator, and `id` the plan's id as text.
 ///
 /// # Errors
 ///
@@ -176,7 +179,8 @@ pub fn span_rows<'a>(
     }
 }
 
-// The rows of a live plan's spans: one for each range of leaves of each volume.
+// The rows of `span2` for `plan`, as if it is live: one for each range of leaves of each volume. `operator`
+// and `id` are as in `span_rows`.
 fn area_spans<'a>(
     alloc: Global,
     operator: &'a str,
@@ -198,7 +202,8 @@ fn area_spans<'a>(
     Ok(rows)
 }
 
-// The rows of `slabs`, which are those of the volume at `place` in the plan `id` of `operator`.
+// The rows of `slabs`, which are those of the volume at `place` in the plan `id` of `operator`; `priority` is
+// the plan's.
 fn slab_rows<'a>(
     alloc: Global,
     operator: &'a str,
@@ -217,7 +222,8 @@ fn slab_rows<'a>(
     Ok(rows)
 }
 
-// The row of `slab`, which is one of the volume at `place` in the plan `id` of `operator`.
+// The row of `slab`, which is one of the volume at `place` in the plan `id` of `operator`; `priority` is the
+// plan's.
 fn slab_row<'a>(
     operator: &'a str,
     id: &'a str,

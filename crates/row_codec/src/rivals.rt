@@ -1,4 +1,7 @@
-//! Slabs with the priority of their plan (`Held`), read from rows of `span2` one at a time.
+//! Slabs with the priority of their plan (`Held`), read from rows of `span2` one at a time. A slab is one
+//! range of leaves (S2 cells of level 30, by their positions along the curve), with one range of altitudes
+//! and one of seconds. A row has the columns `first`, `last`, `lower`, `upper`, `start`, `stop`, `priority`,
+//! counted from 0.
 
 ghost use Rattle.std.specs.Prelude.{◌≡◌, ◌≢◌, ◌<◌, ◌*◌, ◌^◌, ℕ, pos, [], IfErr, IfOk};
 ghost use Rattle.sqlite_value.specs.declared.value.Value.TheVariants.{Int};
@@ -54,6 +57,8 @@ impl RowVisitor for SpanCollector {
 
     ghost refuses = { λ taken row e. (e ≡ SqliteFailure OutOfMemory) ⊎ IsNoHeld row };
 
+    // Keeps the slab of the row. It fails with `OutOfMemory` if memory runs out, and with `DatabaseCorrupt`
+    // if the row isn't that of a slab.
     #[tactic(auto, using(crate::proofs::RivalLemmas::one_taken))]
     fn take(&mut self, row: &Row) -> Result<(), Error> {
         match held_in(row) {
@@ -63,7 +68,8 @@ impl RowVisitor for SpanCollector {
     }
 }
 
-/// The filter that selects the spans which overlap `extent` and whose plan has at least the priority `least`.
+/// The filter that selects the spans which overlap `extent` in leaves, altitudes and seconds, and whose plan
+/// has at least the priority `least`.
 pub fn span_filter_of(extent: &Slab, least: u32) -> SpanFilter
     ensures { result ≡ spec.span_filter_of extent.now least }
 {
@@ -78,8 +84,8 @@ pub fn span_filter_of(extent: &Slab, least: u32) -> SpanFilter
     }
 }
 
-/// As `span_filter_of`, but only the spans that begin at the last leaf of the range `query` or before.
-/// Where the range begins is no part of the filter: a query takes it as a parameter of its own.
+/// As `span_filter_of`, but a span may begin only up to the last leaf of the range `query`, not up to that of
+/// `extent`. Where `query` begins is no part of the filter: it is a parameter of its own when rows are read.
 pub fn span_filter_from(query: &Span, extent: &Slab, least: u32) -> SpanFilter
     requires { query.now.last < 6 * 2 ^ 60 }
     ensures { result ≡ spec.span_filter_from query.now extent.now least }
@@ -89,7 +95,8 @@ pub fn span_filter_from(query: &Span, extent: &Slab, least: u32) -> SpanFilter
     filter
 }
 
-// The slab in the first six columns of `row`, with its plan's priority, which is the seventh.
+// The slab in columns 0 to 5 of `row`, with its plan's priority (column 6). `Store` if one of these columns
+// isn't an integer in its range.
 fn held_in(row: &Row) -> Result<Held, StoreFault>
     ensures value { IfOk result (λ held. IsHeldIn row.now held) }
     ensures refused { IfErr result (λ e. e ≡ StoreFault.Store → IsNoHeld row.now) }
@@ -100,8 +107,8 @@ fn held_in(row: &Row) -> Result<Held, StoreFault>
     })
 }
 
-// The slab in the columns `first` to `stop` of `span2`, which are the first six of `row`; `Store` if they
-// aren't those of a slab.
+// The slab in columns 0 to 5 of `row`: `first` to `stop`. `Store` if one isn't an integer in its range: a
+// leaf position for `first` and `last`, 32 bits for the altitudes `lower` and `upper`.
 fn slab_in(row: &Row) -> Result<Slab, StoreFault>
     ensures value { IfOk result (λ slab. IsSlabIn row.now slab) }
     ensures refused { IfErr result (λ e. e ≡ StoreFault.Store → (shown : One) → FitsColumns shown
@@ -117,7 +124,7 @@ fn slab_in(row: &Row) -> Result<Slab, StoreFault>
     })
 }
 
-// The leaf position in the column `at`; `Store` if it isn't one.
+// The leaf position in the column `at`; `Store` if that isn't an integer from 0 to `6 * 2^60 - 1`.
 fn position_at(row: &Row, at: usize) -> Result<u64, StoreFault>
     ensures value { IfOk result (λ position. column row.now at ≡ Int (pos position)) }
     ensures leaf { IfOk result (λ position. position < 6 * 2 ^ 60) }

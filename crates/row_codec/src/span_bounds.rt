@@ -1,5 +1,7 @@
 //! How long the spans of live plans are, so that a query of the spans near a region need not begin far before
-//! it.
+//! it. A span is a range of leaves (S2 cells of level 30, by their positions along the curve), both ends
+//! included; rows of spans are looked up by where they begin. Its length is its last position less its first,
+//! so 0 for a single leaf. Bounds hold for a span if the queries that they give find its row.
 
 ghost use Rattle.std.specs.Prelude.{◌≡◌, ◌≤◌, ◌<◌, ◌≤ℤ◌, ◌↔◌, ℕ, pos, IfOk, IfSome, IsPermutation, IsTrue, OnOk, Some, length};
 ghost use Rattle.std.specs.List.{AllByRecursion, list_any};
@@ -80,7 +82,8 @@ impl SpanBounds {
         Ok(queries)
     }
 
-    // The least leaf position at which a span that isn't a long one may begin if it overlaps `extent`.
+    // The least leaf position at which a span may begin if it overlaps `extent` and is no longer than
+    // `bound`.
     fn low(&self, extent: &Slab) -> u64
         ensures low { IsLow result extent.now (IsBoundedBy self.now.bound) }
         ensures small { result ≤ extent.now.first }
@@ -88,8 +91,8 @@ impl SpanBounds {
         extent.first.saturating_sub(self.bound)
     }
 
-    // Bounds that also hold for `span`. A long span joins `long_spans` if there is room; else `bound` is
-    // raised to the span's length, if it is less.
+    // Bounds that also hold for `span`. If it is longer than `bound` and than a cell of level 6, it joins
+    // `long_spans`. Otherwise, or if there is no room for it, `bound` becomes its length, if that is greater.
     fn with_span(&self, span: Span) -> SpanBounds
         requires { span.first ≤ span.last }
         ensures kept { Keeps self.now result }
@@ -128,8 +131,8 @@ fn position_of(number: i64) -> u64
     number as u64
 }
 
-// The long spans with `span`, which replaces a shorter one that begins at the same leaf; `None` if there is
-// no room for it.
+// The long spans with `span`. Of two that begin at the same leaf, the longer is kept. `None` if there is no
+// room for `span`.
 fn with_long_span(
     long_spans: &[Option<Span>; MAX_LONG_SPANS],
     span: Span,
@@ -158,7 +161,7 @@ fn slot_for(long_spans: &[Option<Span>; MAX_LONG_SPANS], first: u64) -> Option<u
     None
 }
 
-// The longer of `span` and `long_span`, which begin at the same leaf; `span` if there is no `long_span`.
+// The longer of `long_span` and `span`, which begin at the same leaf; `span` if there is no `long_span`.
 fn longer_of(long_span: Option<Span>, span: Span) -> Span
     requires { BeginsOrNone span.first long_span }
     ensures kept { (known : Range) → IsTrue (takes_in known long_span)

@@ -1,4 +1,5 @@
-//! Values read from the columns of rows.
+//! Values read from the columns of rows, which are counted from 0. A value that no store writes is reported
+//! as `StoreFault::Store`, and failed allocations as `StoreFault::OutOfMemory`.
 
 ghost use Rattle.std.specs.Prelude.{◌≡◌, ◌≢◌, ◌≤◌, ◌<◌, ◌^◌, ℕ, ℤ, List, [], pos, IsTrue, IsUtf8, FitsSigned, IfOk, IfErr};
 ghost use Rattle.std.specs.{Int.w32, List.AllByRecursion, List.AllZip, String.string_bytes};
@@ -26,7 +27,7 @@ pub(crate) fn fault_of(error: Error) -> StoreFault
 }
 
 /// The store's fault for an error of SQLite: `OutOfMemory` if memory ran out, `reported` for an I/O error,
-/// and else `Store`.
+/// and else `Store`. A store in memory passes `OutOfMemory` as `reported`: its I/O fails for no other cause.
 pub fn fault_reported(error: Error, reported: StoreFault) -> StoreFault
     ensures store { result ≡ StoreFault.Store → error ≢ Error.SqliteFailure ErrorCode.OutOfMemory }
     ensures closed { error ≡ Error.SqliteFailure ErrorCode.Closed → result ≡ StoreFault.Store }
@@ -38,7 +39,7 @@ pub fn fault_reported(error: Error, reported: StoreFault) -> StoreFault
     }
 }
 
-/// The result `answer`, with an error of SQLite as the store's fault; an I/O error becomes `reported`.
+/// The result `answer`, in which an error of SQLite becomes the store's fault as by `fault_reported`.
 pub fn or_fault<T>(answer: Result<T, Error>, reported: StoreFault) -> Result<T, StoreFault>
     ensures { IsReportedAs answer result }
 {
@@ -74,7 +75,8 @@ fn blob_at(row: &Row, at: usize) -> Result<Vec<u8>, StoreFault>
     row.get(at).map_err(|e| fault_of(e))
 }
 
-/// The volume in the five columns from `at` on: `lower`, `upper`, `start`, `stop`, `asked`.
+/// The volume in the five columns from `at` on: `lower` and `upper` in decimetres, `start` and `stop` in Unix
+/// seconds, and `asked`, the bytes of its footprint.
 ///
 /// # Errors
 ///
@@ -87,6 +89,7 @@ pub fn volume_in(alloc: Global, row: &Row, at: usize) -> Result<Volume, StoreFau
     ensures refused { IfErr result (λ e. e ≡ StoreFault.Store →
         (v : Block) → IsValidVolume v → ¬ IsVolumeAt row.now at v) }
 {
+    // A law, which changes nothing: footprints with the same bytes are the same.
     one_shape();
     let lower = i32_at(row, at)?;
     let upper = i32_at(row, at + 1)?;
@@ -116,11 +119,12 @@ fn fault_of_volume(fault: VolumeFault) -> StoreFault
     }
 }
 
-/// The area of the volumes in `rows`: one in each row, in the five columns from `at` on.
+/// The area of the volumes in `rows`: one in each row, in the five columns from `at` on, as by `volume_in`.
 ///
 /// # Errors
 ///
-/// `OutOfMemory` if memory runs out. `Store` if the rows aren't those of an area's volumes.
+/// `OutOfMemory` if memory runs out. `Store` if a row has no valid volume, or if there are no rows or more
+/// than 32.
 pub fn area_in(alloc: Global, rows: &[Row], at: usize) -> Result<Area, StoreFault>
     requires { at ≤ 6 }
     ensures value { IfOk result (λ area. (vs : List Block) → AllByRecursion IsValidVolume vs
@@ -154,7 +158,7 @@ pub fn count_at(row: &Row, at: usize) -> Result<u32, StoreFault>
     row.get(at).map_err(|e| fault_of(e))
 }
 
-// The text in the column `at`; `Store` if the column isn't a text, `OutOfMemory` if memory runs out.
+// The text in the column `at`; `Store` if the column isn't a text in UTF-8, `OutOfMemory` if memory runs out.
 fn text_at(row: &Row, at: usize) -> Result<String, StoreFault>
     ensures value { IfOk result (λ text. column row.now at ≡ Text (string_bytes text)) }
     ensures refused { IfErr result (λ e. e ≡ StoreFault.Store →
@@ -163,11 +167,12 @@ fn text_at(row: &Row, at: usize) -> Result<String, StoreFault>
     row.get(at).map_err(|e| fault_of(e))
 }
 
-/// The plan id whose text is the second column of `row`.
+/// The plan id in the column `id` (column 1) of `row`, a row of `plan`. The text may have any form of a UUID:
+/// that it has the form that a store writes (hyphenated, in lower case) is checked by `is_keyed`, not here.
 ///
 /// # Errors
 ///
-/// `OutOfMemory` if memory runs out. `Store` if the column isn't the text of an id.
+/// `OutOfMemory` if memory runs out. `Store` if the column isn't a text in one of these forms.
 pub fn id_in(row: &Row) -> Result<PlanId, StoreFault>
     ensures value { IfOk result (λ found. (id : List ℕ) → IsId id
         → column row.now 1 ≡ Text (id_text id) → found ≡ id) }
@@ -182,7 +187,7 @@ pub fn id_in(row: &Row) -> Result<PlanId, StoreFault>
     }
 }
 
-// The usage whose number is the fourth column of a row of `plan`; `Store` if it isn't the number of one.
+// The usage whose number is in `usage` (column 3) of a row of `plan`; `Store` if it isn't the number of one.
 fn usage_in(row: &Row) -> Result<Usage, StoreFault>
     ensures value { IfOk result (λ usage. column row.now 3 ≡ Int (pos (usage_number usage))) }
     ensures refused { IfErr result (λ e. e ≡ StoreFault.Store →
@@ -196,8 +201,8 @@ fn usage_in(row: &Row) -> Result<Usage, StoreFault>
     }
 }
 
-// The state of the aircraft whose number is the fifth column of a row of `plan`; `Store` if it isn't the
-// number of one.
+// The state of the aircraft whose number is in `aircraft` (column 4) of a row of `plan`; `Store` if it isn't
+// the number of one.
 fn aircraft_in(row: &Row) -> Result<Aircraft, StoreFault>
     ensures value { IfOk result (λ aircraft. column row.now 4 ≡ Int (pos (aircraft_number aircraft))) }
     ensures refused { IfErr result (λ e. e ≡ StoreFault.Store →
@@ -221,7 +226,7 @@ pub struct PlanHead {
 }
 
 impl PlanHead {
-    /// The plan of this head, with the area `area`.
+    /// The plan with this head and the area `area`.
     pub fn with(self, area: Area) -> PlanRow
         ensures { result ≡ plan_with self area }
     {
@@ -235,7 +240,8 @@ impl PlanHead {
     }
 }
 
-/// The plan without its area, in the second to fifth columns: `id`, `priority`, `usage`, `aircraft`.
+/// The plan without its area, from columns 1 to 4 of `row`: `id`, `priority`, `usage`, `aircraft`. Any
+/// priority of 32 bits is read: the limit of 1,000 isn't checked.
 ///
 /// # Errors
 ///

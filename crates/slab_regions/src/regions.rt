@@ -1,4 +1,8 @@
-//! Regions: extents that are joined if they overlap along the curve.
+//! Regions: extents that are joined if they overlap along the S2 curve.
+//!
+//! A slab has the leaf positions from its first to its last leaf, in one range of altitudes and one of
+//! seconds. An extent is a slab that is asked about. The join of extents is one slab round them: it has all
+//! their points, and those between.
 
 ghost use Rattle.std.specs.Prelude.{◌≡◌, ◌∷◌, None, cond, IfOk, OnOk};
 ghost use Rattle.volume4d.specs.Slab.{HasAll, slab_has, slabs_have, top_held};
@@ -9,7 +13,8 @@ use std::alloc::{AllocError, Global};
 use std::slice;
 use volume4d::{Held, Slab};
 
-/// One slab that encloses `first` and all of `others`: their join.
+/// One slab that encloses `first` and all of `others`: from the least of their lower bounds to the greatest
+/// of their upper ones.
 pub fn enclosing_slab(first: &Slab, others: &[Slab]) -> Slab
     ensures { HasAll (slabs_have (first.now ∷ others.now)) result }
 {
@@ -20,7 +25,7 @@ pub fn enclosing_slab(first: &Slab, others: &[Slab]) -> Slab
     whole
 }
 
-/// A copy of `extents`, or one slab that encloses all of them if there are more than `limit`.
+/// A copy of `extents` if there are at most `limit`; else one slab alone, which encloses all of them.
 ///
 /// # Errors
 ///
@@ -36,8 +41,8 @@ pub fn at_most(alloc: Global, extents: &[Slab], limit: usize) -> Result<Vec<Slab
     }
 }
 
-/// The extents, which may be in any order, ascending by first leaf; those that overlap along the curve are
-/// joined, whatever their altitudes and seconds.
+/// Joins the extents that overlap along the curve, whatever their altitudes and seconds. The result ascends
+/// by first leaf, and has all points of the extents, which may come in any order.
 ///
 /// # Errors
 ///
@@ -52,7 +57,7 @@ pub fn joined(alloc: Global, extents: Vec<Slab>) -> Result<Vec<Slab>, AllocError
     }
 }
 
-// Sorts extents, ascending by their first leaves.
+// Sorts extents, ascending by their first leaves. The clause says only that no point is lost.
 fn in_order(mut extents: Vec<Slab>) -> Vec<Slab>
     ensures { HaveEach extents.items result.items }
 {
@@ -60,7 +65,8 @@ fn in_order(mut extents: Vec<Slab>) -> Vec<Slab>
     extents
 }
 
-// Joins extents that overlap along the curve; `first` and then `others` ascend by first leaf.
+// Joins extents that overlap along the curve; `first` and then `others` ascend by first leaf, and so do the
+// results. If memory runs out, the error is `AllocError`.
 fn joined_from(alloc: Global, first: &Slab, others: &[Slab]) -> Result<Vec<Slab>, AllocError>
     ensures { IfOk result (λ regions. HaveEach (first.now ∷ others.now) regions.items) }
 {
@@ -78,12 +84,12 @@ fn joined_from(alloc: Global, first: &Slab, others: &[Slab]) -> Result<Vec<Slab>
     Ok(regions)
 }
 
-/// Appends the slabs `more` to `helds`, each clipped to `region`, with their priorities. A clipped slab may
-/// be empty.
+/// Appends the slabs `more` to `helds`, each clipped to `region` and with its priority. A slab that has no
+/// point of `region` is appended as one without points.
 ///
 /// # Errors
 ///
-/// `AllocError` if memory runs out.
+/// `AllocError` if memory runs out; some of the slabs may have been appended then.
 pub fn push_clipped(helds: &mut Vec<Held>, more: &[Held], region: &Slab) -> Result<(), AllocError>
     ensures { OnOk result (AddsLevel helds.old.items helds.new.items
         (λ x. cond (slab_has region.now x) (top_held more.now x) None)) }

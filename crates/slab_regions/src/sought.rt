@@ -1,4 +1,5 @@
-//! The slabs that a search for volumes is about.
+//! The slabs that a search for volumes is about: it looks for volumes whose bounding slab overlaps one of
+//! them.
 
 ghost use Rattle.std.specs.Prelude.{◌≡◌, true};
 ghost use Rattle.volume4d.specs.{Volume.Point, Slab.slab_has};
@@ -16,7 +17,7 @@ pub struct SearchArea<'a> {
 }
 
 impl SearchArea<'_> {
-    /// A search about the one slab `extent`, which is the whole and the only part.
+    /// A search about the one slab `extent`: it is the whole and the only part.
     pub fn one(extent: &Slab) -> SearchArea<'_>
         ensures { (x : Point) → slab_has extent.now x ≡ true → spec.sought_has result x ≡ true }
     {

@@ -1,4 +1,5 @@
-//! Connections to the files at a path.
+//! Connections to the files at a path: a database file and its WAL. A parameter `start: S` stands for what
+//! the files held before, which only contracts read; `S` also says what a torn write is assumed to leave.
 
 ghost use Rattle.std.specs.Prelude.{IfErr, IfOk};
 ghost use Rattle.sqlite_wal.specs.Files.{image_at};
@@ -10,8 +11,8 @@ use crate::path::{NotOpened, connect_over, not_opened, open_pair, options};
 use sqlite::{Connection, FileFrom, FileStore, Start};
 use std::fs::{exists, metadata};
 
-/// Connects to the database in the file at `path` and its WAL, which are made if they aren't there. `start`
-/// says what they held.
+/// Connects to the database in the file at `path` and its WAL. Each of the two that isn't there is made.
+/// `start` stands for what they held.
 ///
 /// # Errors
 ///
@@ -34,7 +35,7 @@ pub fn connect<S: Start>(
 ///
 /// # Errors
 ///
-/// Those of `connect`, and `Store` if there is no file at the path, if it is empty, or if that can't be known.
+/// Those of `connect`, and `Store` if there is no file at `path`, if it is empty, or if that can't be known.
 pub fn connect_to_existing<S: Start>(
     rt: &HostRuntime,
     path: &str,
@@ -50,11 +51,11 @@ pub fn connect_to_existing<S: Start>(
     }
 }
 
-/// As `connect`, but nothing may be at `path`.
+/// As `connect`, but there must be nothing at `path`.
 ///
 /// # Errors
 ///
-/// Those of `connect`, and `Store` if there is something at the path, or if that can't be known.
+/// Those of `connect`, and `Store` if there is something at `path`, or if that can't be known.
 pub fn connect_new<S: Start>(
     rt: &HostRuntime,
     path: &str,

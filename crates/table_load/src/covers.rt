@@ -1,5 +1,7 @@
 //! The rows of `volume2`, read one at a time. The cover in each is compared with that of its volume, but not
-//! kept.
+//! kept. A row has the columns `operator`, `id`, `place`, `lower`, `upper`, `start`, `stop`, `asked`,
+//! `canon`, counted from 0: columns 3 to 7 are the volume, and `canon` is its canonical cover, the fewest S2
+//! cells that have just the leaves of its footprint `asked`.
 
 ghost use Rattle.std.specs.Prelude.{◌≡◌, ◌≢◌, ◌↔◌, ◌++◌, [], ◌∷◌, List, map, IsTrue, IfOk, IfErr, OnOk};
 ghost use Rattle.sqlite_value.specs.declared.value.Value.TheVariants.{Blob};
@@ -47,7 +49,8 @@ impl CoverCheck {
         }
     }
 
-    // Compares the cover in `row`, its ninth column, with that of its volume, and keeps the other eight.
+    // Compares the cover in `row` (column 8) with that of its volume, unless an earlier one already differed,
+    // and keeps columns 0 to 7.
     fn add(&mut self, row: &Row) -> Result<(), AllocError>
         ensures { OnOk result ((rows : List Columns)
             → AreCompared self.old.volumes.items self.old.agree rows
@@ -71,13 +74,14 @@ impl RowVisitor for CoverCheck {
 
     ghost refuses = { λ taken row e. e ≡ SqliteFailure OutOfMemory };
 
+    // Keeps the row without its cover, and compares the cover. It fails with `OutOfMemory` alone.
     fn take(&mut self, row: &Row) -> Result<(), Error> {
         self.add(row)?;
         Ok(())
     }
 }
 
-// A row of those columns of `row` whose indexes are `places`. `values` is a buffer for them.
+// A row of the columns `places` of `row`, in this order. `values` is a buffer for them: what it had is lost.
 fn columns_of(
     alloc: Global,
     values: &mut row::Row,
@@ -93,7 +97,7 @@ fn columns_of(
     Row::from_row(alloc, values)
 }
 
-// The value in the column `at`, or NULL past the last column.
+// The value in the column `at` of `row`, counted from 0, or NULL past the last column.
 fn value_at(row: &Row, at: usize) -> ValueRef<'_>
     ensures { owned result ≡ column row.now at }
 {
@@ -111,10 +115,12 @@ fn agree_with_next(alloc: Global, agree: bool, row: &Row) -> Result<bool, AllocE
     has_own_cover(alloc, row)
 }
 
-// Whether `row`, a row of `volume2`, has a valid volume, from its fourth column on, with its canonical cover.
+// Whether `row`, a row of `volume2`, has a valid volume (columns 3 to 7) and the canonical cover of that
+// (column 8). `AllocError` if memory runs out.
 fn has_own_cover(alloc: Global, row: &Row) -> Result<bool, AllocError>
     ensures { IfOk result (λ is. IsTrue is ↔ HasItsCover row.now) }
 {
+    // A law, which changes nothing: footprints with the same bytes are the same.
     one_shape();
     match volume_in(alloc, row, 3) {
         Ok(volume) => has_cover_of(alloc, row, &volume),
@@ -123,7 +129,7 @@ fn has_own_cover(alloc: Global, row: &Row) -> Result<bool, AllocError>
     }
 }
 
-// Whether the ninth column of `row`, `canon`, is the canonical cover of `volume`.
+// Whether `canon` (column 8) of `row` is the canonical cover of `volume`.
 fn has_cover_of(alloc: Global, row: &Row, volume: &Volume) -> Result<bool, AllocError>
     ensures { IfOk result (λ has. IsTrue has ↔ HasCoverOf volume.now row.now) }
 {
@@ -131,7 +137,7 @@ fn has_cover_of(alloc: Global, row: &Row, volume: &Volume) -> Result<bool, Alloc
     Ok(has_bytes_at(row, 8, &canon))
 }
 
-// Whether the column `at` is a blob of these bytes.
+// Whether the column `at` of `row` is a blob of just these bytes.
 fn has_bytes_at(row: &Row, at: usize, bytes: &[u8]) -> bool
     ensures { IsTrue result ↔ (column row.now at ≡ Blob bytes.now) }
 {
@@ -141,8 +147,8 @@ fn has_bytes_at(row: &Row, at: usize, bytes: &[u8]) -> bool
     }
 }
 
-/// Passes all rows of `volume2` to `check`, ordered by key; none if the table isn't among those that are
-/// there, `made`.
+/// Passes all rows of `volume2` to `check`, ordered by key. `made` says which tables the database has; if
+/// `volume2` isn't one of them, there are no rows.
 ///
 /// # Errors
 ///

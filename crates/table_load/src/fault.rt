@@ -13,8 +13,8 @@ pub enum OpenFault {
     OutOfMemory,
     /// SQLite failed for another cause.
     Store,
-    /// The tables, indexes and views are not those of a desk (with or without others that stand apart behind
-    /// all of these); or the rows aren't those of a valid state.
+    /// The tables, indexes and views aren't those of a desk: others may only stand behind all of these, and
+    /// apart from them. Or the rows aren't those of a valid state.
     NotADesk,
     /// There are rows of schema 1, which have to be migrated.
     OldSchema,
@@ -26,6 +26,7 @@ impl fmt::Display for OpenFault {
 
     ghost output = { λ fault. Some (open_fault_text fault) };
 
+    // The fault as a sentence, in lower case and without a full stop.
     fn fmt<W: fmt::Write>(&self, f: &mut fmt::Formatter<W>) -> fmt::Result {
         f.pad(match self {
             OpenFault::OutOfMemory => "out of memory",
@@ -44,6 +45,7 @@ impl From<sqlite::Error> for OpenFault {
 
     ghost from_gives = { λ error fault. fault ≡ open_fault_of error };
 
+    // Memory ran out, or SQLite failed for another cause.
     fn from(error: sqlite::Error) -> OpenFault {
         match error {
             sqlite::Error::SqliteFailure(ErrorCode::OutOfMemory) => OpenFault::OutOfMemory,
@@ -58,6 +60,7 @@ impl From<AllocError> for OpenFault {
 
     ghost from_gives = { λ _ fault. fault ≡ OutOfMemory };
 
+    // An allocation failed, so memory ran out.
     fn from(_error: AllocError) -> OpenFault {
         OpenFault::OutOfMemory
     }
@@ -69,6 +72,7 @@ impl From<RowFault> for OpenFault {
 
     ghost from_gives = { λ rows fault. fault ≡ fault_of_rows rows };
 
+    // Memory ran out, or the rows aren't those of a valid state: the database isn't a desk's.
     fn from(rows: RowFault) -> OpenFault {
         match rows {
             RowFault::OutOfMemory => OpenFault::OutOfMemory,

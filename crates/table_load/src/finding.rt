@@ -1,4 +1,8 @@
-//! Loads the state of a database in schema 2 when a store is opened over it.
+//! Loads the state of a database in schema 2 when a store is opened over it: the operators with their
+//! ceilings, and all plans. A state is valid if it keeps the desk's limits. Schema 2 has its rows in
+//! `operator`, `plan`, `volume2` and `span2`; rows in `volume` or `span` are of schema 1. A desk makes tables
+//! and indexes in one order, the canonical one; a packed file has all tables before the indexes, as after a
+//! VACUUM. The parameter `made` says which of them a database has.
 
 ghost use Rattle.std.specs.Prelude.{◌≡◌, ◌≢◌, ◌↔◌, ◌<◌, ◌^◌, List, [], length, true, false, IfOk, IfErr, OnOk, IsTrue, None, ◌≤◌};
 ghost use Rattle.sqlite_value.specs.Order.{Row as Values};
@@ -32,14 +36,13 @@ use volume4d::laws::one_shape;
 
 /// Loads the state of a database; returns it with the indexes in memory, and whether it has an operator (no
 /// contract says this). Missing tables are made: of an empty database all, else those after the ones that are
-/// there, if the rows are those of a valid state. The tables of a packed file are then rebuilt in canonical
-/// order.
+/// there, if the rows are those of a valid state. A packed file is rebuilt in canonical order.
 ///
 /// # Errors
 ///
-/// `OutOfMemory` if memory runs out. `Store` if SQLite fails for another cause. `OldSchema` if there are
-/// rows of schema 1. `NotADesk` if the tables aren't a desk's, or if the rows aren't those of a valid
-/// state.
+/// `OutOfMemory` if memory runs out. `Store` if SQLite fails for another cause. `OldSchema` if there are rows
+/// of schema 1. `NotADesk` if the tables aren't a desk's, or if the rows aren't those of a valid state. The
+/// tables and rows stay in each case.
 pub fn load_world<S: Alter>(
     alloc: Global,
     connection: &mut Connection<S>,
@@ -60,8 +63,9 @@ pub fn load_world<S: Alter>(
     load_or_create(alloc, connection, made)
 }
 
-/// Which of the schema's tables there are, and whether they have rows of schema 1. `NotADesk` if the
-/// tables aren't a desk's.
+/// Which of the schema's tables there are, and whether they have rows of schema 1. `NotADesk` if there are
+/// others than a desk's; `OutOfMemory` if memory runs out; `Store` if SQLite fails for another cause. It
+/// changes nothing.
 pub(crate) fn find_desk_tables<S: Alter>(
     connection: &mut Connection<S>,
 ) -> Result<(TablesPresent, bool), OpenFault>
@@ -86,8 +90,8 @@ pub(crate) fn find_desk_tables<S: Alter>(
     Ok((made, old))
 }
 
-/// Loads the state of a database without rows of schema 1, as `load_world` does. `made` says which tables it
-/// has.
+/// Loads the state of a database without rows of schema 1, whose tables are `made`: it makes or reorders
+/// tables, returns and fails as `load_world` does.
 pub(crate) fn load_or_create<S: Alter>(
     alloc: Global,
     connection: &mut Connection<S>,
@@ -111,11 +115,11 @@ pub(crate) fn load_or_create<S: Alter>(
     }
 }
 
-/// Makes all tables in a database that has none; returns the empty state.
+/// Makes all tables in a database that has none, in one transaction; returns the empty state.
 ///
 /// # Errors
 ///
-/// `OutOfMemory` if memory runs out. `Store` if SQLite fails for another cause.
+/// `OutOfMemory` if memory runs out. `Store` if SQLite fails for another cause. No table is made then.
 pub fn create_tables<S: Alter>(connection: &mut Connection<S>) -> Result<GhostState, OpenFault>
     requires blank { ShowsPart S.Store connection.old TablesPresent.Nothing }
     requires unlimited { connection.old.step_limit ≡ None }
@@ -129,10 +133,10 @@ pub fn create_tables<S: Alter>(connection: &mut Connection<S>) -> Result<GhostSt
     Ok(GhostState::new())
 }
 
-// Loads the state from the tables that are there, `made` (some first ones of the schema, not all), and then
-// makes the missing ones in one transaction. Returns the state, its indexes in memory, and whether it has an
-// operator. Fails with `NotADesk` if the rows are no valid state, and with `OutOfMemory` or `Store`; a
-// connection that is still open over an intact disk then shows what it showed.
+// Loads the state from the tables `made`, which are some of the schema's but not all, and then makes the
+// missing ones in one transaction. Returns the state, its indexes in memory, and whether it has an operator
+// (no contract says this). `NotADesk` if the rows aren't those of a valid state; `OutOfMemory` or `Store` as
+// in `load_world`. If it fails, no table is made.
 // Long: five facts say which tables there are; one record says how it may end.
 #[tactic(auto, using(crate::proofs::lemmas::Opening::some_operators))]
 fn load_and_complete<S: Alter>(
@@ -158,8 +162,8 @@ fn load_and_complete<S: Alter>(
     Ok(found)
 }
 
-// Loads the state from the tables `made`; returns it with the indexes in memory, and whether it has an
-// operator.
+// Loads the state from the tables `made`, and changes nothing. Returns the state, its indexes in memory, and
+// whether it has an operator (no contract says this). It fails as `load_content` does.
 fn load_tables<S: Alter>(
     alloc: Global,
     connection: &mut Connection<S>,
@@ -177,7 +181,9 @@ fn load_tables<S: Alter>(
     Ok((GhostState::of(&content), known, is_enrolled))
 }
 
-/// Loads the state from the tables `made`; returns it with the indexes in memory.
+/// Loads the state from the tables `made`, and changes nothing; returns it with the indexes in memory.
+/// `NotADesk` if the rows aren't those of a valid state, `OutOfMemory` if memory runs out, and `Store` if
+/// SQLite fails for another cause.
 pub(crate) fn load_content<S: Alter>(
     alloc: Global,
     connection: &mut Connection<S>,
@@ -192,6 +198,7 @@ pub(crate) fn load_content<S: Alter>(
     ensures known { IfOk result (λ found. Knows found.1 found.0) }
     ensures live { OnOk result (IsOpenIfClean S.Store connection.new) }
 {
+    // A law, which changes nothing: footprints with the same bytes are the same.
     one_shape();
     let (heads, covered) = read_heads(alloc, connection, made)?;
     let (operators, plans) = parse_covered_heads(alloc, &heads, covered)?;
@@ -200,8 +207,8 @@ pub(crate) fn load_content<S: Alter>(
     finish_content(alloc, operators, check)
 }
 
-/// The operators and plans whose rows are `heads`; `NotADesk` if these aren't the rows of a valid state.
-/// Spans and covers aren't checked.
+/// The operators and plans whose rows of operators, plans and volumes are `heads`. `NotADesk` if these aren't
+/// the rows of a valid state; `OutOfMemory` if memory runs out. Spans and covers aren't checked.
 pub(crate) fn parse_heads(
     alloc: Global,
     heads: &TableRows,
@@ -212,6 +219,7 @@ pub(crate) fn parse_heads(
         → IsContent w → ¬ AreRows (record heads.now { spans = spans }) w) }
     ensures fault { IfErr result (λ e. (e ≢ OpenFault.Store) × (e ≢ OpenFault.OldSchema)) }
 {
+    // A law, which changes nothing: footprints with the same bytes are the same.
     one_shape();
     let operators = operators_in(alloc, &heads.operators)?;
     let plans = plans_in(alloc, &heads.plans, &heads.volumes)?;
@@ -221,7 +229,8 @@ pub(crate) fn parse_heads(
     Ok((operators, plans))
 }
 
-// As `parse_heads`, but also `NotADesk` if `covered` is false: it says whether each volume had its own cover.
+// As `parse_heads`, but also `NotADesk` if `covered` is false: it says whether the cover in each row of a
+// volume was that of the volume.
 fn parse_covered_heads(
     alloc: Global,
     heads: &TableRows,
@@ -241,8 +250,8 @@ fn parse_covered_heads(
     Ok((operators, plans))
 }
 
-// Whether operators and plans are ordered by their keys, none twice, each plan's operator is there, and no
-// operator has more than `MAX_PLANS` plans.
+// Whether operators and plans are ordered by their keys, none twice, each plan's operator is among
+// `operators`, and no operator has more than `MAX_PLANS` plans.
 fn are_in_order(operators: &[ListedOperator], plans: &[FiledPlan]) -> bool
     ensures { IsTrue result ↔ AreListedInOrder operators.now plans.now }
 {
@@ -256,7 +265,8 @@ fn are_in_order(operators: &[ListedOperator], plans: &[FiledPlan]) -> bool
 }
 
 /// The state of `operators` and of the plans in `check`, with the indexes in memory. `check` has compared all
-/// rows of spans with these plans: `NotADesk` if they aren't the rows of the plans.
+/// rows of spans with these plans: `NotADesk` if they aren't the rows of the plans. `OutOfMemory` if memory
+/// runs out.
 pub(crate) fn finish_content(
     alloc: Global,
     operators: Vec<ListedOperator>,
@@ -273,6 +283,7 @@ pub(crate) fn finish_content(
         → WereCompared check rows → ¬ AreSpanRows check.plans.items rows) }
     ensures fault { IfErr result (λ e. (e ≢ OpenFault.Store) × (e ≢ OpenFault.OldSchema)) }
 {
+    // A law, which changes nothing: a set of leaves has only one list of ranges.
     one_list_of_ranges();
     let mut check = check;
     if !check.agrees()? {
@@ -291,9 +302,9 @@ pub(crate) fn finish_content(
     Ok((content, known))
 }
 
-/// The rows of the tables of schema 2 but for spans, ordered by key; none of a table that isn't among those
-/// that are there, `made`. Rows of `volume2` are without their covers; also returned is whether each of these
-/// is that of its volume.
+/// The rows of `operator`, `plan` and `volume2`, each ordered by key, and whether each cover is that of its
+/// volume. The rows of `volume2` come without their covers, and `spans` is empty. A table that isn't among
+/// `made` has no rows. It fails with `OutOfMemory` if memory runs out, and with `Store` for another cause.
 #[tactic(auto, using(crate::proofs::lemmas::Frame::reads_then, crate::proofs::lemmas::Opening::part_on))]
 pub(crate) fn read_heads<S: Alter>(
     alloc: Global,
@@ -323,8 +334,8 @@ pub(crate) fn read_heads<S: Alter>(
     Ok((heads, check.agree))
 }
 
-/// Bounds that hold for each span for which `span_bounds` hold, and for the span in the fourth and fifth
-/// columns of `row`, if they are integers.
+/// Bounds that hold for each span for which `span_bounds` hold, and for the span of `row`, a row of spans:
+/// from `first` to `last` (columns 3 and 4, counted from 0). They are the same if these two aren't integers.
 pub(crate) fn with_span_row(span_bounds: &SpanBounds, row: &Row) -> SpanBounds
     ensures kept { Keeps span_bounds.now result }
     ensures known { IsKnownRow result row.now }

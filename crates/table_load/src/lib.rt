@@ -1,5 +1,6 @@
 //! Loading a whole database: which tables it has, the state that their rows stand for, and why a database is
-//! refused.
+//! refused. A state has the operators with their ceilings, and all plans; it is valid if it keeps the desk's
+//! limits.
 #![tactic(auto)]
 
 pub mod connecting;

@@ -1,4 +1,6 @@
-//! Statistics of a database in either schema, which is only read.
+//! Statistics of a database in either schema, which is only read. In schema 1, the older one, volumes and
+//! spans have their rows in `volume` and `span`; in schema 2 in `volume2` and `span2`. A state, that is, the
+//! operators with their ceilings and all plans, is valid if it keeps the desk's limits.
 
 ghost use Rattle.std.specs.Prelude.{◌≡◌, ◌≢◌, false, IfOk, IfErr};
 ghost use Rattle.desk_rules.specs.Outcome.{is_live};
@@ -46,7 +48,7 @@ pub struct DbStats {
 /// # Errors
 ///
 /// `OutOfMemory` if memory runs out. `Store` if SQLite fails for another cause. `NotADesk` if there is no
-/// table, if the tables aren't a desk's, or if the rows aren't those of a valid state.
+/// table, if the tables aren't a desk's, or if the rows aren't those of a valid state in either schema.
 pub fn read_stats<S: Alter>(
     alloc: Global,
     connection: &mut Connection<S>,
@@ -64,7 +66,8 @@ pub fn read_stats<S: Alter>(
     Ok(stats_of(&content, old))
 }
 
-/// Whether another table, index or view stands beside a desk's in the database that `connection` shows.
+/// Whether the database that `connection` shows has more tables than a desk's six, more indexes than its
+/// eight (six of primary keys, two over leaves), or a view.
 pub fn has_others<S: Alter>(connection: &Connection<S>) -> bool
     ensures { result ≡ spec.has_others (state S.Store connection.now).now.schema }
 {
@@ -72,7 +75,7 @@ pub fn has_others<S: Alter>(connection: &Connection<S>) -> bool
     schema.tables.len() > 6 || schema.indexes.len() > 8 || schema.views.len() > 0
 }
 
-/// The statistics of the state `content`. `is_old` says whether it was read in schema 1.
+/// The statistics of the state `content`. `is_old` says whether it was read from rows of schema 1.
 pub fn stats_of(content: &Content, is_old: bool) -> DbStats
     requires { IsContent content.now }
     ensures counted { AreStatsOf result content.now }
@@ -120,8 +123,9 @@ pub fn read_content<S: Alter>(
     Ok((content, known, old))
 }
 
-// Loads the state from the tables of schema 1 if `old`, else from those of schema 2; `made` says which tables
-// there are.
+// Loads the state from the tables of schema 1 if `old`, else from those of schema 2; returns it with the
+// indexes in memory. `old` says whether there are rows of schema 1, and `made` which tables there are. It
+// fails as `read_stats` does.
 #[tactic(auto, using(crate::proofs::lemmas::Opening::some_operators))]
 fn load_content_in_schema<S: Alter>(
     alloc: Global,

@@ -1,4 +1,8 @@
-//! The migration of a database from schema 1 to schema 2.
+//! The migration of a database from schema 1 to schema 2. Schema 1 has the rows of volumes and spans in
+//! `volume` and `span`; schema 2 has them in `volume2`, with covers, and `span2`. Operators and plans have
+//! the same rows in both. A packed file has all tables before the indexes, as after a VACUUM, and is rebuilt
+//! in canonical order: the one in which a desk makes them. The parameter `made` says which tables a database
+//! has.
 
 ghost use Rattle.std.specs.Prelude.{◌≡◌, ◌≢◌, ◌↔◌, ◌<◌, ◌-◌, ◌^◌, List, ◌∷◌, true, false, IfOk, IfErr, OnOk, OnErr, IsTrue, length, None};
 ghost use Rattle.std.specs.List.{AllByRecursion};
@@ -41,14 +45,14 @@ const OLD_MAX_VOLUMES: usize = 8;
 const OLD_MAX_COVER: usize = 256;
 
 /// Loads the state of a database, which it migrates if its rows are those of schema 1. It returns the state,
-/// the indexes in memory, and how many plans were migrated: at most 2^32 - 1, and 0 for a database of
-/// schema 2, which is loaded as by `load_world`.
+/// the indexes in memory, and how many plans were migrated: at most 2^32 - 1 are reported, and 0 for a
+/// database of schema 2, which is loaded as by `load_world`.
 ///
 /// # Errors
 ///
-/// `OutOfMemory` if memory runs out. `Store` if SQLite fails for another cause. `NotADesk` if the
-/// tables aren't a desk's, or if the rows aren't those of a valid state in either schema. The rows stay in
-/// each case.
+/// `OutOfMemory` if memory runs out. `Store` if SQLite fails for another cause. `NotADesk` if the tables
+/// aren't a desk's, or if the rows aren't those of a valid state in either schema. The rows stay in each
+/// case.
 pub fn load_or_migrate<S: Alter>(
     alloc: Global,
     connection: &mut Connection<S>,
@@ -69,7 +73,8 @@ pub fn load_or_migrate<S: Alter>(
     Ok((kept, known, 0))
 }
 
-// Loads the state of a database of schema 1, and migrates its rows; returns what `load_or_migrate` does.
+// Loads the state of a database of schema 1, which has the tables `made`, and migrates its rows. It returns
+// and fails as `load_or_migrate` does.
 #[tactic(auto, using(crate::proofs::lemmas::Opening::some_operators))]
 fn migrate_tables<S: Alter>(
     alloc: Global,
@@ -94,8 +99,8 @@ fn migrate_tables<S: Alter>(
     Ok((GhostState::of(&content), known, count))
 }
 
-// Makes the tables that aren't among `made`, or rebuilds those of a packed file in canonical order. The rows
-// of schema 1 stay, and there are none of schema 2.
+// Makes the tables that aren't among `made`, or rebuilds those of a packed file in canonical order. There are
+// no rows of schema 2; all others stay. If it fails, the tables stay as they were.
 fn complete_or_rebuild<S: Alter>(
     connection: &mut Connection<S>,
     made: TablesPresent,
@@ -120,8 +125,8 @@ fn complete_or_rebuild<S: Alter>(
     Ok(())
 }
 
-// Replaces the rows of schema 1 by those of `plans` in schema 2, in one transaction. If it fails, the rows
-// stay.
+// Replaces the rows of schema 1 by those of `plans` in schema 2, in one transaction. `plans` are all plans of
+// the database. If it fails, the rows stay.
 fn migrate_rows<S: Alter>(
     alloc: Global,
     connection: &mut Connection<S>,
@@ -137,6 +142,7 @@ fn migrate_rows<S: Alter>(
     ensures over { IsOver S.Store connection.old connection.new }
     ensures crash { MayMake S.Store connection.old connection.new (MovesRows plans.now) }
 {
+    // Laws, which change nothing: a cover has at most 1,024 cells; the connection shows what was committed.
     covers_are_few();
     committed_and_sound(connection);
     let mut tx = connection.transaction();
@@ -146,7 +152,8 @@ fn migrate_rows<S: Alter>(
     Ok(())
 }
 
-// Removes all rows of the tables `volume` and `span` of schema 1, within a transaction.
+// Removes all rows of `volume` and `span`, the tables of schema 1, within a transaction. After an error, what
+// was committed stays.
 fn empty_old_tables<S: Alter>(tx: &mut Transaction<'_, S>) -> Result<(), Error>
     requires desk { Holds S.Store tx.old.conn.now IsDesk }
     ensures same_reference { tx.new.conn.ghost_name ≡ tx.old.conn.ghost_name }
@@ -163,7 +170,13 @@ fn empty_old_tables<S: Alter>(tx: &mut Transaction<'_, S>) -> Result<(), Error>
     empty_old_spans(tx)
 }
 
-/// Adds the rows of `plans` in `volume2` and `span2`, within a transaction. Their rows in `plan` are there.
+/// Adds the rows of `plans` in `volume2` and `span2`, within a transaction. Their rows in `plan` are there
+/// already.
+///
+/// # Errors
+///
+/// `OutOfMemory` if memory runs out. `Store` if SQLite fails for another cause. What was committed stays
+/// then.
 pub fn write_plans<S: Alter>(
     alloc: Global,
     tx: &mut Transaction<'_, S>,
@@ -181,7 +194,8 @@ pub fn write_plans<S: Alter>(
     Ok(())
 }
 
-// Adds the rows of `plan` in `volume2` and `span2`, within a transaction.
+// Adds the rows of `plan` in `volume2` and `span2`, within a transaction. Its row in the table `plan` is
+// there already. It fails as `write_plans` does.
 fn write_plan<S: Alter>(
     alloc: Global,
     tx: &mut Transaction<'_, S>,
@@ -196,6 +210,7 @@ fn write_plan<S: Alter>(
         → HasCleanDisk (state S.Store tx.new.conn.now)
         → OnOk result (AreWritable later (state S.Store tx.new.conn.now).now) }
 {
+    // A law, which changes nothing: a set of leaves has only one list of ranges.
     one_list_of_ranges();
     let mut buffer = [0u8; 36];
     let id = plan.row.id.encode(&mut buffer);
@@ -209,8 +224,9 @@ fn write_plan<S: Alter>(
     Ok(())
 }
 
-/// Loads the state whose rows the tables of schema 1 have; returns it with the indexes in memory. `NotADesk`
-/// if the rows aren't those of a valid state of schema 1, or if there are rows of schema 2.
+/// Loads the state from the tables of schema 1, so far as they are among `made`, and changes nothing; returns
+/// it with the indexes in memory. `NotADesk` if the rows aren't those of a valid state of schema 1, or if
+/// there are rows of schema 2; `OutOfMemory` if memory runs out; `Store` if SQLite fails for another cause.
 pub(crate) fn load_old_tables<S: Alter>(
     alloc: Global,
     connection: &mut Connection<S>,
@@ -223,6 +239,7 @@ pub(crate) fn load_old_tables<S: Alter>(
     ensures few { IfOk result (λ found. HaveFewRows found.0.plans) }
     ensures known { IfOk result (λ found. Knows found.1 found.0) }
 {
+    // A law, which changes nothing: footprints with the same bytes are the same.
     one_shape();
     let heads = read_old_heads_alone(alloc, connection, made)?;
     let (operators, plans) = parse_old_heads(alloc, &heads)?;
@@ -231,7 +248,7 @@ pub(crate) fn load_old_tables<S: Alter>(
     finish_content(alloc, operators, check)
 }
 
-// As `read_old_heads`, but `NotADesk` if there is a row in a table of schema 2 alone.
+// As `read_old_heads`, but `NotADesk` if `volume2` or `span2`, which only schema 2 has, has a row.
 // Long: the value, and when each fault is reported, have a clause each.
 fn read_old_heads_alone<S: Alter>(
     alloc: Global,
@@ -256,7 +273,8 @@ fn read_old_heads_alone<S: Alter>(
     read_old_heads(alloc, connection, made)
 }
 
-/// Whether the tables of schema 2 alone, so far as they are among `made`, are empty.
+/// Whether `volume2` and `span2`, which only schema 2 has, are without rows. One that isn't among `made` has
+/// none.
 #[tactic(auto, using(crate::proofs::lemmas::Frame::reads_then))]
 pub(crate) fn are_new_tables_empty<S: Alter>(
     connection: &mut Connection<S>,
@@ -274,8 +292,9 @@ pub(crate) fn are_new_tables_empty<S: Alter>(
     Ok(!has_rows)
 }
 
-/// The rows of the tables of schema 1 but for spans, ordered by key; none of a table that isn't among those
-/// that are there, `made`.
+/// The rows of `operator`, `plan` and `volume`, each ordered by key; `spans` is empty. A table that isn't
+/// among `made` has no rows. It fails with `OutOfMemory` if memory runs out, and with `Store` for another
+/// cause.
 #[tactic(auto, using(crate::proofs::lemmas::Frame::reads_then, crate::proofs::lemmas::Opening::part_on))]
 pub(crate) fn read_old_heads<S: Alter>(
     alloc: Global,
@@ -303,8 +322,9 @@ pub(crate) fn read_old_heads<S: Alter>(
     })
 }
 
-// The operators and plans whose rows are `heads`; `NotADesk` if these aren't the rows of a valid state within
-// the limits of schema 1. The spans aren't checked.
+// The operators and plans whose rows of operators, plans and volumes are `heads`. `NotADesk` if these aren't
+// the rows of a valid state within the limits of schema 1; `OutOfMemory` if memory runs out. Spans aren't
+// checked.
 fn parse_old_heads(
     alloc: Global,
     heads: &TableRows,
@@ -315,6 +335,7 @@ fn parse_old_heads(
         → IsOldContent w → ¬ AreRows (record heads.now { spans = spans }) w) }
     ensures fault { IfErr result (λ e. (e ≢ OpenFault.Store) × (e ≢ OpenFault.OldSchema)) }
 {
+    // A law, which changes nothing: footprints with the same bytes are the same.
     one_shape();
     let (operators, plans) = parse_heads(alloc, heads)?;
     if !are_within_old_limits(&plans)? {
@@ -323,7 +344,8 @@ fn parse_old_heads(
     Ok((operators, plans))
 }
 
-/// Whether each plan is within the limits of schema 1 on the volumes of a plan and on their covers.
+/// Whether each plan is within the limits of schema 1: 8 volumes, and 256 cells of the canonical cover of
+/// each of its rectangles. `AllocError` if memory runs out.
 pub(crate) fn are_within_old_limits(plans: &[FiledPlan]) -> Result<bool, AllocError>
     ensures { IfOk result (λ are. IsTrue are ↔ AllByRecursion (λ p. IsOldArea p.row.area) plans.now) }
 {
@@ -337,7 +359,7 @@ pub(crate) fn are_within_old_limits(plans: &[FiledPlan]) -> Result<bool, AllocEr
     Ok(true)
 }
 
-// Whether the volumes of a plan are within the limits of schema 1.
+// Whether `volumes`, those of one plan, are within the limits of schema 1. `AllocError` if memory runs out.
 fn is_area_within_old_limits(volumes: &[Volume]) -> Result<bool, AllocError>
     ensures { IfOk result (λ is. IsTrue is ↔ IsOldArea volumes.now) }
 {
@@ -354,14 +376,15 @@ fn is_area_within_old_limits(volumes: &[Volume]) -> Result<bool, AllocError>
     Ok(true)
 }
 
-// Whether the cover of `volume` is within the limit of schema 1. This limits the covers of rectangles alone:
-// for cell lists both schemas have the same limits.
+// Whether the canonical cover of `volume` is within the limit of schema 1: 256 cells for a rectangle. Cell
+// lists have the same limits in both schemas. `AllocError` if memory runs out.
 fn is_volume_within_old_limits(volume: &Volume) -> Result<bool, AllocError>
     ensures { IfOk result (λ is. IsTrue is ↔ IsOldShape volume.now.footprint) }
 {
     if let Footprint::Cells(_) = volume.footprint() {
         return Ok(true);
     }
+    // Laws, which change nothing: the cells of a cover are the canonical list of its leaves.
     one_canonical_list();
     canonical_list_is();
     let cover = volume.cover()?;

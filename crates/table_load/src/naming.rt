@@ -1,5 +1,7 @@
 //! Which part of a database is invalid: an administrator is shown it if files were refused. It is found
-//! afterwards, by the checks that refuse a database, in their order. Nothing is changed.
+//! afterwards, by the checks that refuse a database, in their order. Nothing is changed. Contracts say that a
+//! part which is named is invalid, but not that an invalid part is always named. Schema 1 is the older one,
+//! with its rows in `volume` and `span`; schema 2 has them in `volume2` and `span2`.
 
 ghost use Rattle.std.specs.Prelude.{◌≡◌, ◌≢◌, ◌⊎◌, List, true, false, IfErr, IfOk, IfSome, OnOk};
 ghost use Rattle.sqlite_value.specs.Order.{Row as Values};
@@ -34,8 +36,8 @@ use volume4d::laws::one_shape;
 pub enum InvalidPart {
     /// There is no table.
     NoTable,
-    /// The tables, indexes and views are not those of a desk (with or without others that stand apart behind
-    /// all of these).
+    /// The tables, indexes and views aren't those of a desk: others may only stand behind all of these, and
+    /// apart from them.
     OtherTables,
     /// There are rows of schema 1 and rows of schema 2.
     BothSchemas,
@@ -67,7 +69,7 @@ pub struct Named<D: Disk> {
 }
 
 impl<D: Disk> Named<D> {
-    /// The first invalid part. None if there is none, or if the database can't be read.
+    /// The first invalid part. `None` if there is none, or if the database can't be read or memory ran out.
     pub fn part(&self) -> Option<InvalidPart>
         ensures { result ≡ self.now.part }
     {
@@ -75,12 +77,13 @@ impl<D: Disk> Named<D> {
     }
 }
 
-/// Finds the first invalid part of the database in the files at `path`, which are only read. `start` says
-/// what they held.
+/// Finds the first invalid part of the database in the files at `path`. No table or row is changed; a WAL is
+/// made if there is none. `start` stands for what the files held, which only contracts read.
 ///
 /// # Errors
 ///
-/// `NotOpened` if the files were not opened.
+/// `NotOpened` if there is no file at `path`, if it is empty, or if the files can't be opened for another
+/// cause.
 pub fn part_at<S: Start>(
     rt: &HostRuntime,
     path: &str,
@@ -94,7 +97,8 @@ pub fn part_at<S: Start>(
     Ok(Named { part, connection })
 }
 
-/// Finds the first invalid part of a database. None if there is none, or if the database can't be read.
+/// Finds the first invalid part of a database: its tables are tested first, then their rows. `None` if there
+/// is none, or if the database can't be read or memory runs out.
 #[tactic(auto, using(crate::proofs::lemmas::Opening::some_operators, crate::proofs::NamedLemmas::new_named, crate::proofs::NamedLemmas::old_named))]
 pub fn find_invalid<S: Alter>(alloc: Global, connection: &mut Connection<S>) -> Option<InvalidPart>
     requires settled { connection.old.in_transaction ≡ false }
@@ -116,7 +120,9 @@ pub fn find_invalid<S: Alter>(alloc: Global, connection: &mut Connection<S>) -> 
     }
 }
 
-// The first invalid part of a database without rows of schema 1, which has the tables `made`.
+// The first invalid part of a database without rows of schema 1, which has the tables `made`: the rows of
+// operators, plans and volumes are tested first, then spans, then covers. `None` if all are valid, or if the
+// database can't be read or memory runs out.
 #[tactic(auto, using(crate::proofs::lemmas::Frame::reads_then, crate::proofs::lemmas::Opening::part_on))]
 fn new_fault<S: Alter>(
     alloc: Global,
@@ -142,7 +148,8 @@ fn new_fault<S: Alter>(
     }
 }
 
-// The first invalid part of a database with rows of schema 1, which has the tables `made`.
+// The first invalid part of a database with rows of schema 1, which has the tables `made`: `BothSchemas` if
+// there are also rows of schema 2, else the first among the rows of schema 1. `None` as in `new_fault`.
 #[tactic(auto, using(crate::proofs::lemmas::Opening::some_operators, crate::proofs::NamedLemmas::moving_named))]
 fn old_fault<S: Alter>(
     alloc: Global,
@@ -161,7 +168,9 @@ fn old_fault<S: Alter>(
     old_rows_fault(alloc, connection, made)
 }
 
-// The first invalid part among the rows of schema 1; there are none of schema 2.
+// The first invalid part among the rows of schema 1, if there are none of schema 2. The database has the
+// tables `made`. The rows of operators, plans and volumes are tested first, then spans, then the limits of
+// schema 1. `None` as in `new_fault`.
 #[tactic(auto, using(crate::proofs::lemmas::Frame::reads_then, crate::proofs::lemmas::Opening::part_on))]
 fn old_rows_fault<S: Alter>(
     alloc: Global,
@@ -187,7 +196,8 @@ fn old_rows_fault<S: Alter>(
     }
 }
 
-// `Span` if the rows of spans aren't those of the plans; else `Cover` unless `covered`. None also if memory
+// `check` has compared all rows of spans with the plans: `Span` if they aren't the rows of the plans. Else
+// `Cover` if `covered` is false: some cover isn't that of its volume. `None` if all are right, or if memory
 // runs out.
 fn fault_of_spans(mut check: SpanCheck, covered: bool) -> Option<InvalidPart>
     ensures { (rows : List Values) → WereCompared check rows
@@ -199,8 +209,8 @@ fn fault_of_spans(mut check: SpanCheck, covered: bool) -> Option<InvalidPart>
     (!covered).then_some(InvalidPart::Cover)
 }
 
-// `OldSpan` if the rows of spans aren't those of the plans; else `OldPlan` if a plan exceeds the limits of
-// schema 1. None if memory runs out.
+// `check` has compared all rows of spans with the plans: `OldSpan` if they aren't the rows of the plans. Else
+// `OldPlan` if a plan exceeds the limits of schema 1. `None` if all are right, or if memory runs out.
 fn fault_of_old_spans(mut check: SpanCheck) -> Option<InvalidPart>
     ensures { (rows : List Values) → WereCompared check rows
         → IfSome result (FailsOldSpans check.plans.items rows) }
@@ -212,8 +222,8 @@ fn fault_of_old_spans(mut check: SpanCheck) -> Option<InvalidPart>
     (!within).then_some(InvalidPart::OldPlan)
 }
 
-// The plans whose rows are `rows`; else the first invalid part, or None if memory runs out. `volume` is the
-// part that is named if the rows of volumes are invalid: `Volume` or `OldVolume`.
+// The plans whose rows are `rows`. The error is the first invalid part, or `None` if memory runs out.
+// `volume` is the part that is named if rows of volumes are invalid: `Volume`, or `OldVolume` in schema 1.
 fn plans_of(
     alloc: Global,
     rows: &TableRows,
@@ -222,6 +232,7 @@ fn plans_of(
     ensures ok { IfOk result (λ plans. AreGoodHeads rows.now plans.items) }
     ensures fault { IfErr result (λ named. IfSome named (FailsHeads rows.now volume)) }
 {
+    // A law, which changes nothing: footprints with the same bytes are the same.
     one_shape();
     let operators = match operators_in(alloc, &rows.operators) {
         Ok(operators) => operators,
@@ -243,7 +254,8 @@ fn plans_of(
     Ok(plans)
 }
 
-// The part `part`, whose rows were refused for `fault`, if they are invalid; None if memory ran out.
+// The part to be named if reading the rows of `part` failed with `fault`: `part` if they are invalid; `None`
+// if memory ran out.
 fn part_if_invalid(fault: RowFault, part: InvalidPart) -> Option<InvalidPart>
     ensures { result ≡ spec.part_if_invalid fault part }
 {
@@ -253,8 +265,8 @@ fn part_if_invalid(fault: RowFault, part: InvalidPart) -> Option<InvalidPart>
     }
 }
 
-// Which part is invalid if no plans have these rows: `Plan` if one of `heads` isn't the row of a plan, else
-// `volume`, also if memory runs out.
+// Which part is named if `heads` and the rows of volumes aren't those of plans: `Plan` if one of `heads` by
+// itself isn't the row of a plan; else `volume` (as in `plans_of`), also if memory runs out.
 fn plan_or_volume(volume: InvalidPart, heads: &[Row]) -> InvalidPart
     ensures { (result ≡ volume) ⊎ ((result ≡ InvalidPart.Plan) × (¬ ArePlanHeads heads.now)) }
 {
@@ -264,7 +276,8 @@ fn plan_or_volume(volume: InvalidPart, heads: &[Row]) -> InvalidPart
     }
 }
 
-// Checks that each of `heads` is the row of a plan in `plan`, whatever its volumes are; else `InvalidRows`.
+// Checks that each of `heads` is a valid row of the table `plan`, whatever rows the plan's volumes have.
+// `InvalidRows` if one isn't; `OutOfMemory` if memory runs out.
 fn check_plan_rows(heads: &[Row]) -> Result<(), RowFault>
     ensures valid { OnOk result (ArePlanHeads heads.now) }
     ensures refused { IfErr result (λ e. e ≡ RowFault.InvalidRows → ¬ ArePlanHeads heads.now) }
@@ -277,8 +290,9 @@ fn check_plan_rows(heads: &[Row]) -> Result<(), RowFault>
     Ok(())
 }
 
-// Checks that `head` is a row of the table `plan`, whatever the plan's volumes are; else `InvalidRows`, or
-// `OutOfMemory` if memory runs out. Its third column is the priority.
+// Checks that `head` is a valid row of the table `plan`, whatever rows the plan's volumes have: its columns
+// are an operator's name, an id as the desk writes it, a priority of at most 1,000 (column 2, counted from
+// 0), a usage and a state of the aircraft. `InvalidRows` if it isn't; `OutOfMemory` if memory runs out.
 fn check_plan_row(head: &Row) -> Result<(), RowFault>
     ensures valid { OnOk result (IsPlanHead head.now) }
     ensures refused { IfErr result (λ e. e ≡ RowFault.InvalidRows → ¬ IsPlanHead head.now) }

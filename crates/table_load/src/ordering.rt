@@ -1,4 +1,6 @@
-//! How the tables of a packed file, which come before all indexes, are rebuilt in canonical order.
+//! How a packed file is rebuilt in canonical order. A packed file has all its tables before the indexes, as
+//! after a VACUUM; in canonical order, the one in which a desk makes them, the indexes over leaves follow
+//! their tables.
 
 ghost use Rattle.std.specs.Prelude.{◌≡◌, ◌≢◌, IfOk, IfErr, OnOk, OnErr, None};
 ghost use Rattle.sqlite.specs.{State.HasCleanDisk, Held.state};
@@ -21,8 +23,9 @@ use std::alloc::Global;
 use volume4d::laws::covers_are_few;
 
 /// Loads the state of a packed file without rows of schema 1, and rebuilds its tables in canonical order. It
-/// returns the state, the indexes in memory, and whether there is an operator. If it fails, the file stays
-/// packed.
+/// returns the state, the indexes in memory, and whether there is an operator (no contract says this).
+/// `NotADesk` if the rows aren't those of a valid state; `OutOfMemory` or `Store` as in `load_world`. If it
+/// fails, the file stays packed.
 pub(crate) fn load_and_reorder<S: Alter>(
     alloc: Global,
     connection: &mut Connection<S>,
@@ -43,8 +46,8 @@ pub(crate) fn load_and_reorder<S: Alter>(
     Ok((GhostState::of(&content), known, is_enrolled))
 }
 
-// Rebuilds the tables in canonical order, with the rows of `plans` in `volume2` and `span2`, in one
-// transaction. If it fails, the tables stay as they were.
+// Rebuilds the tables in canonical order, in one transaction: `volume2` and `span2` are made anew, with the
+// rows of `plans`, which are all plans of the file. If it fails, the tables stay as they were.
 fn reorder_tables<S: Alter>(
     alloc: Global,
     connection: &mut Connection<S>,
@@ -60,6 +63,7 @@ fn reorder_tables<S: Alter>(
     ensures over { IsOver S.Store connection.old connection.new }
     ensures crash { MayMake S.Store connection.old connection.new (OrdersRows plans.now) }
 {
+    // Laws, which change nothing: a cover has at most 1,024 cells; the connection shows what was committed.
     covers_are_few();
     committed_and_sound(connection);
     let mut tx = connection.transaction();
@@ -70,7 +74,7 @@ fn reorder_tables<S: Alter>(
 }
 
 /// Rebuilds the tables of a packed file in canonical order, in one transaction. The rows of `volume2` and
-/// `span2` are lost. If it fails, the tables stay as they were.
+/// `span2` are lost: a migration calls it while there are none. If it fails, the tables stay as they were.
 pub(crate) fn rebuild_alone<S: Alter>(connection: &mut Connection<S>) -> Result<(), OpenFault>
     requires part { ShowsPart S.Store connection.old TablesPresent.Packed }
     ensures done { HasCleanDisk (state S.Store connection.new)
@@ -82,6 +86,7 @@ pub(crate) fn rebuild_alone<S: Alter>(connection: &mut Connection<S>) -> Result<
     ensures over { IsOver S.Store connection.old connection.new }
     ensures crash { MayMake S.Store connection.old connection.new RemakesTables }
 {
+    // A law, which changes nothing: what the connection shows is committed and sound.
     committed_and_sound(connection);
     let mut tx = connection.transaction();
     rebuild_tables(&mut tx)?;

@@ -1,4 +1,5 @@
-//! Opens the files at a path, or reports why they were not opened. Nothing else makes a `NotOpened`.
+//! Opens the files at a path, or reports why they were not opened. Nothing else makes a `NotOpened`. A
+//! parameter `start` stands for what the files held before, which only contracts read.
 
 ghost use Rattle.std.specs.Prelude.{◌≡◌, IfErr, IfOk, IsTrue, None, true, false};
 ghost use Rattle.std.specs.Option.{IsSomeAnd};
@@ -39,8 +40,8 @@ impl<D: Disk> NotOpened<D> {
     }
 }
 
-/// Connects to the database in `files`. The error has the files as they were left: `OutOfMemory` if memory
-/// runs out, and `Store` if SQLite fails for another cause.
+/// Connects to the database in `files`, which are open. `OutOfMemory` if memory runs out, and `Store` if
+/// SQLite fails for another cause. For contracts, the error has the files as they were left.
 pub(crate) fn connect_over<D: Disk + Drop>(
     alloc: Global,
     files: Files<D>,
@@ -63,9 +64,9 @@ pub(crate) fn connect_over<D: Disk + Drop>(
     }
 }
 
-/// Opens the database file at `path` and its WAL, which are made if they aren't there. `start` says what they
-/// held. `Store` if `path` is a name that SQLite doesn't read as a path, or if they can't be opened;
-/// `OutOfMemory` if memory runs out.
+/// Opens the database file at `path` and its WAL. Each of the two that isn't there is made. `start` stands
+/// for what they held. `OutOfMemory` if memory runs out. `Store` if `path` is `:memory:` or begins with
+/// `file:`, which SQLite doesn't read as paths, or if the files can't be opened for another cause.
 pub(crate) fn open_pair<S: Start>(
     rt: &HostRuntime,
     path: &str,
@@ -89,8 +90,9 @@ pub(crate) fn open_pair<S: Start>(
     }
 }
 
-/// The options of a connection. The seed for the salts of the WAL comes from the operating system; `Store` if
-/// that fails.
+/// The options of a connection: after how many frames its WAL is checkpointed, and the seed for the salts of
+/// the WAL. The seed is the hash of a constant under a random key of the operating system; `Store` if that
+/// fails.
 pub(crate) fn options<D: Disk>(rt: &HostRuntime) -> Result<Options, NotOpened<D>>
     ensures frames { IfOk result (λ options. options.checkpoint_frames ≡ log_frames) }
     ensures fault { IfErr result (λ it. IsUnread it.fault) }
@@ -103,7 +105,7 @@ pub(crate) fn options<D: Disk>(rt: &HostRuntime) -> Result<Options, NotOpened<D>
     })
 }
 
-/// The error with the cause `fault`, when the two files were not opened: it holds none.
+/// The error with the cause `fault`, for two files that were not both opened. It keeps none of them.
 pub(crate) fn not_opened<D: Disk>(fault: OpenFault) -> NotOpened<D>
     ensures fault { result.fault ≡ fault }
     ensures left { result.left ≡ None }

@@ -1,4 +1,8 @@
-//! The rows of a table of spans, read one at a time in the order of their key, and compared with the plans.
+//! The rows of a table of spans, `span2` or `span` of schema 1, read one at a time in the order of their key,
+//! and compared with the plans. A row stands for a slab: one range of leaves (S2 cells of level 30, by their
+//! positions along the curve) of one volume of a plan, with the volume's altitudes and times. A volume's
+//! place is its number in its plan, counted from 0. A live plan is one that isn't closed; a closed one has no
+//! rows.
 
 ghost use Rattle.std.specs.Prelude.{◌≡◌, ◌≢◌, ◌↔◌, ◌<◌, ◌+◌, ◌-◌, ◌^◌, true, false, IsTrue, IfOk, IfErr, OnOk, List, [], ◌∷◌, ◌++◌, drop};
 ghost use Rattle.sqlite_value.specs.Order.{Row as Columns};
@@ -41,7 +45,7 @@ const TOO_MANY: usize = (1 << 63) - 1;
 /// The place of the next expected row of spans: which slab of which volume of which plan it stands for.
 #[derive(Drop)]
 pub struct Cursor {
-    // the current plan, and the place of the next of its volumes
+    // the index of the current plan among the plans, and the place of the next of its volumes
     plan: usize,
     place: usize,
     // the slabs of the current volume, its place, and the index of the next slab
@@ -78,7 +82,9 @@ impl Cursor {
         }
     }
 
-    // Moves to the next slab of the live plan `plan`, the current one; false if none is left.
+    // Moves to the next slab of `plan`, which is the current plan and live: that of the current volume, or
+    // else of a later volume. False if none is left. A slab that `take_if_next` didn't take is still the
+    // next.
     fn find_slab_in(&mut self, plan: &FiledPlan) -> Result<bool, AllocError>
         requires live { plan_spec.is_live plan.now.row.usage ≡ true }
         ensures same { OnOk result ((later : List Filed) (rows : List Columns)
@@ -89,6 +95,7 @@ impl Cursor {
         ensures found { IfOk result (IsSlabFound plan.now self.new) }
         ensures plan { self.new.plan ≡ self.old.plan }
     {
+        // A law, which changes nothing: a set of leaves has only one list of ranges.
         one_list_of_ranges();
         while self.next >= self.slabs.len() {
             let Some(volume) = plan.row.area.volumes().get(self.place) else {
@@ -113,8 +120,8 @@ impl Cursor {
         self.next = 0;
     }
 
-    // Moves to the next slab of the current plan `plan`; if none is left, moves to the next plan and returns
-    // false.
+    // Moves to the next slab of the current plan `plan`. If none is left, as in a closed plan, moves to the
+    // next plan and returns false.
     fn find_slab_or_skip(&mut self, plan: &FiledPlan) -> Result<bool, AllocError>
         requires { self.old.plan < 2 ^ 64 - 1 }
         ensures same { OnOk result ((plans : List Filed)
@@ -133,7 +140,7 @@ impl Cursor {
         Ok(false)
     }
 
-    // Moves to the next slab of any plan; false if none is left.
+    // Moves to the next slab of the current plan or of a later one; false if none is left.
     fn find_slab(&mut self, plans: &[FiledPlan]) -> Result<bool, AllocError>
         ensures same { OnOk result (AwaitsAlike plans.now self.old self.new) }
         ensures found { IfOk result (IsFound plans.now self.new) }
@@ -146,13 +153,15 @@ impl Cursor {
         Ok(false)
     }
 
-    // Whether `row` is the next expected row: that of the next slab. If it is, moves past the slab.
+    // Whether `row` is the next expected row: that of the next slab. If it is, moves past this slab. False
+    // also if no row is expected any more.
     fn take_if_next(&mut self, plans: &[FiledPlan], row: &Row) -> Result<bool, AllocError>
         ensures { IfOk result (IsNextRow plans.now self.old self.new row.now) }
     {
         if !self.find_slab(plans)? {
             return Ok(false);
         }
+        // The plan and the slab are there, since `find_slab` returned true.
         let Some(plan) = plans.get(self.plan) else {
             return Ok(false);
         };
@@ -176,12 +185,13 @@ pub struct SpanCheck {
     cursor: Cursor,
     // whether the rows so far are the first rows of the plans
     agree: bool,
+    // how many rows there were, and bounds that hold for their spans
     pub count: usize,
     pub span_bounds: SpanBounds,
 }
 
 impl SpanCheck {
-    /// A check before the first row.
+    /// A check that will compare rows with `plans`, before the first row.
     pub fn new(alloc: Global, plans: Vec<FiledPlan>) -> SpanCheck
         ensures plans { result.plans.items ≡ plans.items }
         ensures fresh { WereCompared result [] }
@@ -195,8 +205,8 @@ impl SpanCheck {
         }
     }
 
-    // Counts `row`, makes the span bounds hold for it, and compares it with the next expected row.
-    // `AllocError` also if there are too many rows to count.
+    // Counts `row`, makes the span bounds hold for its span, and compares it with the next expected row
+    // unless an earlier row already differed. `AllocError` if memory runs out, or if there are 2^63 rows.
     fn add(&mut self, row: &Row) -> Result<(), AllocError>
         ensures taken { OnOk result ((rows : List Columns) → WereCompared self.old rows
             → WereCompared self.new (rows ++ row.now ∷ [])) }
@@ -213,7 +223,7 @@ impl SpanCheck {
         Ok(())
     }
 
-    /// Whether the rows so far are exactly all rows that the plans have.
+    /// Whether the rows so far are exactly all rows that the plans have, none missing.
     ///
     /// # Errors
     ///
@@ -243,14 +253,15 @@ impl RowVisitor for SpanCheck {
 
     ghost refuses = { λ taken row e. e ≡ SqliteFailure OutOfMemory };
 
+    // Counts and compares the row. It fails with `OutOfMemory` alone.
     fn take(&mut self, row: &Row) -> Result<(), Error> {
         self.add(row)?;
         Ok(())
     }
 }
 
-/// Passes all rows of the table of spans `table` to `check`, ordered by key; none if the table isn't among
-/// those that are there, `made`.
+/// Passes all rows of the table of spans `table` to `check`, ordered by key. `made` says which tables the
+/// database has; if `table` isn't one of them, there are no rows.
 ///
 /// # Errors
 ///

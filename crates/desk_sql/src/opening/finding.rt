@@ -1,4 +1,9 @@
 //! What tables a database has.
+//!
+//! Canonical order is that in which the desk makes its tables and indexes. A packed file lists all tables
+//! before the indexes, so some have other b-trees there. Other tables, indexes and views stand apart if they
+//! are listed behind all of the desk's, no foreign key refers to a table of the desk's, and no index is on
+//! one.
 
 ghost use Rattle.std.specs.Prelude.{◌≡◌, false, IsTrue, IfOk, IfErr, MatchOption};
 ghost use Rattle.sqlite.specs.{State.HasCleanDisk, Held.state};
@@ -8,7 +13,8 @@ use crate::opening::matching::tables_present;
 use crate::opening::numbers::{DeskTable, test_all_rowids};
 use sqlite::{Alter, Connection, Error};
 
-/// Which tables and indexes of the schema a database has. They are made in this order, but for `Packed`.
+/// Which tables and indexes of the schema a database has. The desk makes them one by one, in this order;
+/// `Packed` is none of these steps.
 #[derive(Clone, Copy, Debug, PartialEq, Eq)]
 pub enum TablesPresent {
     /// There is no table, index or view.
@@ -27,23 +33,23 @@ pub enum TablesPresent {
     Volumes,
     /// There are these and `span2`.
     Spans,
-    /// There are these and the index over the leaves of `span2`. Other tables, indexes and views may stand
-    /// apart behind them: no table refers to one of these, and no index is on one.
+    /// There are these and the index over the leaves of `span2`: all of version 2. Other tables, indexes and
+    /// views may stand apart behind them.
     All,
     /// There are all, but the tables come before the indexes, as after a VACUUM.
     Packed,
 }
 
 impl TablesPresent {
-    /// Whether the tables come before all indexes.
+    /// Whether all tables come before all indexes.
     pub fn is_packed(self) -> bool
         ensures { result ≡ is_packed self }
     {
         matches!(self, TablesPresent::Packed)
     }
 
-    /// Whether `table` is there, in its b-tree. `Volume` and `PackedVolume`, for example, are both `volume2`,
-    /// in different b-trees.
+    /// Whether the database has `table`, in the b-tree that this value also stands for: `Volume` and
+    /// `PackedVolume`, for example, are both `volume2`, in the b-trees of canonical and of packed order.
     pub fn has(self, table: DeskTable) -> bool
         ensures { result ≡ has_table self table }
     {
@@ -67,13 +73,14 @@ impl TablesPresent {
     }
 }
 
-/// Which tables and indexes of the schema the database has, or `None` if it has others that don't stand apart
-/// behind all of them, or has these in an order that is neither canonical nor packed. It changes nothing.
+/// Which tables and indexes of the schema the database has. `None` if it has others that don't stand apart,
+/// or lists the schema's in an order that is neither canonical nor packed. No transaction may be open. It
+/// changes nothing.
 ///
 /// # Errors
 ///
-/// Those of a query. Also `DatabaseCorrupt` if a rowid in the tables isn't an integer or comes twice, which
-/// doesn't happen in a sound database.
+/// `DatabaseCorrupt` if a rowid in the tables isn't an integer or comes twice, which doesn't happen in a
+/// sound database. Those of SQLite if memory runs out, the disk fails or the connection's step limit is met.
 pub fn find_tables<S: Alter>(connection: &mut Connection<S>) -> Result<Option<TablesPresent>, Error>
     requires settled { connection.old.in_transaction ≡ false }
     ensures found { IfOk result (λ found. MatchOption found

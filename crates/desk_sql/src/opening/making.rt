@@ -1,4 +1,5 @@
-//! How the tables and the indexes are made.
+//! How the tables and indexes of the schema that a database lacks are made, in canonical order. A packed
+//! file, which lists all tables before the indexes, lacks none.
 
 ghost use Rattle.std.specs.Prelude.{◌≡◌, ◌≢◌, suc, IfSome, IfNone, IfErr, IsTrue, OnOk, OnErr};
 ghost use Rattle.sqlite.specs.{Effect.IsDatabase, State.HasCleanDisk, Held.state};
@@ -14,8 +15,8 @@ use crate::opening::objects::{
 use crate::running::run;
 use sqlite::{Alter, Connection, Error, Transaction};
 
-// What is there after the next statement if `made` is there now, and that statement; `None` if nothing is
-// missing.
+// The next step if `made` is there now: what is there after it, and the statement that makes this. `None` if
+// nothing is missing. `made` is not `Packed`.
 fn next_step(made: TablesPresent) -> Option<(TablesPresent, &'static str)>
     requires { made ≢ TablesPresent.Packed }
     ensures step { IfSome result (λ step. IsStep step.1.now made step.0) }
@@ -37,7 +38,8 @@ fn next_step(made: TablesPresent) -> Option<(TablesPresent, &'static str)>
 }
 
 /// Makes the tables and indexes that are missing beside `made`, one statement after the other, within a
-/// transaction.
+/// transaction. The rows of the others stay. `made` is what the database has now, and neither `All` nor
+/// `Packed`. If it fails, nothing is committed.
 pub(crate) fn make_rest<S: Alter>(
     tx: &mut Transaction<'_, S>,
     made: TablesPresent,
@@ -61,8 +63,14 @@ pub(crate) fn make_rest<S: Alter>(
     Ok(())
 }
 
-/// Makes the tables and indexes of the schema that are missing beside `made`, in one transaction. The rows of
-/// the others stay.
+/// Makes the tables and indexes of the schema that are missing beside `made`, in one transaction: all of them
+/// or none, even if the program crashes. The rows of the others stay. `made` is what the database has now,
+/// and neither `All` nor `Packed`.
+///
+/// # Errors
+///
+/// Those of SQLite if memory runs out, the disk fails, the connection's step limit is met, or a row of spans
+/// is too long for its index.
 // Long: success, failure and its cause, the end of the transaction and a crash have a clause each.
 pub fn complete_tables<S: Alter>(
     connection: &mut Connection<S>,

@@ -1,4 +1,12 @@
 //! Whether a database has the tables and indexes of the schema, part by part.
+//!
+//! A form describes one part as the desk makes it: a column, a foreign key, a table or an index. It is
+//! compared with the part that SQLite found in the file. Columns are numbered from 1, since column 0 is the
+//! rowid. The b-trees of tables and indexes are numbered from 0; those of a desk end with 13. A leaf index is
+//! an index over the leaf positions of a table of spans.
+//!
+//! Other tables, indexes and views may be listed behind all of a desk's. They stand apart if no foreign key
+//! refers to one of the desk's tables and no index is on one.
 
 ghost use Rattle.std.specs.Prelude.{◌≡◌, ◌↔◌, ◌<◌, ◌-◌, ◌^◌, [], ◌∷◌, IsTrue, MatchOption, map};
 ghost use Rattle.sqlite_value.specs.Keys.{plain};
@@ -13,16 +21,16 @@ use sqlite_schema::schema::{Action, Column, Index, Kind, Reference, Schema, Stam
 use sqlite_value::keys::{Collation, Order};
 use sqlite_value::value::{Bytes, Value};
 
-/// The description of one part of a schema, such as a column or an index.
+/// The form of one part of a schema, such as a column or an index: `stands_for` is that part.
 trait FormOf<T> {
     ghost stands_for: { Self → T };
 
-    /// Whether `found` equals the part that this describes, in all its fields.
+    /// Whether `found` equals the part that this form describes, in all its fields.
     fn describes(&self, found: &T) -> bool
         ensures { IsTrue result ↔ (found.now ≡ stands_for self.now) };
 }
 
-/// Whether `found` has the parts that `forms` describe, in this order, and no others.
+// Whether `found` are the parts that `forms` describe, in this order, and no others.
 fn all_match<T, F: FormOf<T>>(found: &[T], forms: &[F]) -> bool
     ensures { IsTrue result ↔ (found.now ≡ map F.stands_for forms.now) }
 {
@@ -33,8 +41,8 @@ fn all_match<T, F: FormOf<T>>(found: &[T], forms: &[F]) -> bool
     }
 }
 
-/// Whether `column` is one of a STRICT table with this name and type, takes no NULL, has no default, and is
-/// compared by its bytes.
+// Whether `column` has this name and type, is of a STRICT table, takes no NULL, has no default, and is
+// compared by its bytes.
 fn is_column(column: &Column, name: &[u8], kind: Kind) -> bool
     ensures { IsTrue result ↔ (column.now ≡ column_of name.now kind) }
 {
@@ -46,10 +54,11 @@ fn is_column(column: &Column, name: &[u8], kind: Kind) -> bool
         && column.collation == Collation::Binary
 }
 
-// A column of a table, by its name and type.
+// As a part of a table, a column form stands for the column with its name and type.
 impl FormOf<Column> for ColumnForm {
     ghost stands_for = { column_from };
 
+    // Whether `found` is the column with this form's name and type.
     fn describes(&self, found: &Column) -> bool {
         match self {
             ColumnForm::OfText(name) => is_column(found, name, Kind::Text),
@@ -59,10 +68,11 @@ impl FormOf<Column> for ColumnForm {
     }
 }
 
-// The name of a column, as a foreign key names the columns of its parent.
+// As a part of a foreign key, a column form stands for its name alone.
 impl FormOf<Bytes> for ColumnForm {
     ghost stands_for = { name_from };
 
+    // Whether `found` is this form's name.
     fn describes(&self, found: &Bytes) -> bool {
         match self {
             ColumnForm::OfText(name) | ColumnForm::OfNumber(name) | ColumnForm::OfBytes(name) => {
@@ -72,21 +82,21 @@ impl FormOf<Bytes> for ColumnForm {
     }
 }
 
-// Whether the column numbers `found` are `places`, in this order. Column 0 is the rowid.
+// Whether the column numbers `found` are `places`, in this order.
 fn are_places(found: &Items<usize>, places: &[usize]) -> bool
     ensures { IsTrue result ↔ (found.now ≡ places.now) }
 {
     found.as_slice() == places
 }
 
-// Whether the text `found` is `name`.
+// Whether the text `found` is `name`, in the same case.
 fn is_name(found: &Bytes, name: &[u8]) -> bool
     ensures { IsTrue result ↔ (found.now ≡ name.now) }
 {
     found.as_slice() == name
 }
 
-/// Whether `keys` is one key, of the columns `places`.
+// Whether `keys` is one key alone, of the columns with the numbers `places`.
 fn is_only_key(keys: &[Items<usize>], places: &[usize]) -> bool
     ensures { IsTrue result ↔ (keys.now ≡ places.now ∷ []) }
 {
@@ -96,7 +106,7 @@ fn is_only_key(keys: &[Items<usize>], places: &[usize]) -> bool
     }
 }
 
-/// Whether `orders` is one order, in which every column ascends by its bytes (`digits` is 0).
+// Whether `orders` is the order of one key alone, in which every column ascends by its bytes (`digits` is 0).
 fn is_only_plain(orders: &[Order]) -> bool
     ensures { IsTrue result ↔ (orders.now ≡ plain ∷ []) }
 {
@@ -106,14 +116,14 @@ fn is_only_plain(orders: &[Order]) -> bool
     }
 }
 
-/// Whether no column has the current time as its default: `stamps` is empty.
+// Whether no column has the current time as its default: the library `sqlite` lists these in `stamps`.
 fn has_no_stamps(stamps: &Stamps) -> bool
     ensures { IsTrue result ↔ (stamps.now ≡ no_stamps) }
 {
     stamps.places.is_empty() && stamps.terms.roots.is_empty() && stamps.formats.is_empty()
 }
 
-/// Whether a table has no INTEGER PRIMARY KEY, no CHECK, no default that is computed, and no AUTOINCREMENT.
+// Whether `table` has no INTEGER PRIMARY KEY, no CHECK, no default that is computed, and no AUTOINCREMENT.
 fn has_no_extras(table: &Table) -> bool
     ensures { IsTrue result ↔ (table.now ≡ without_extras table.now) }
 {
@@ -124,8 +134,8 @@ fn has_no_extras(table: &Table) -> bool
         && !table.is_counted
 }
 
-/// Whether `table` has this name, b-tree and primary key, and nothing else beside columns and foreign keys.
-/// `key` are the numbers of the key's columns.
+// Whether `table` has this name, b-tree and primary key (`key` has the numbers of its columns), and nothing
+// else but columns and foreign keys, which aren't looked at.
 fn is_plain_table(table: &Table, name: &[u8], tree: u32, key: &[usize]) -> bool
     ensures { IsTrue result ↔ (table.now ≡ plain_table table.now name.now tree key.now) }
 {
@@ -137,10 +147,11 @@ fn is_plain_table(table: &Table, name: &[u8], tree: u32, key: &[usize]) -> bool
         && has_no_extras(table)
 }
 
-// A foreign key that is not deferred and has no action on an update.
+// A foreign key form stands for one that is not deferred and has no action on an update.
 impl FormOf<Reference> for ReferenceForm {
     ghost stands_for = { reference_from };
 
+    // Whether `found` is the foreign key of this form.
     fn describes(&self, found: &Reference) -> bool {
         are_places(&found.columns, self.places)
             && is_name(&found.parent, self.parent)
@@ -151,7 +162,8 @@ impl FormOf<Reference> for ReferenceForm {
     }
 }
 
-/// Whether `table` is the one that `form` describes, in the b-tree `tree`.
+// Whether `table` is the one that `form` describes, with all its columns and foreign keys, in the b-tree
+// `tree`.
 fn is_table(table: &Table, form: &TableForm, tree: u32) -> bool
     ensures { IsTrue result ↔ (table.now ≡ table_from form.now tree) }
 {
@@ -160,7 +172,7 @@ fn is_table(table: &Table, form: &TableForm, tree: u32) -> bool
         && all_match(table.references.as_slice(), form.references)
 }
 
-/// Whether `tables` are the tables among `objects`, in their order.
+// Whether `tables` are the tables among `objects`, in their order, and no others. Indexes are passed over.
 fn are_tables(tables: &[Table], objects: &[DeskObject]) -> bool
     ensures { IsTrue result ↔ (tables.now ≡ tables_from objects.now) }
 {
@@ -176,8 +188,8 @@ fn are_tables(tables: &[Table], objects: &[DeskObject]) -> bool
     }
 }
 
-/// Whether `index` is the one that SQLite makes for the primary key of `form`: unique, ascending, and in the
-/// b-tree after that of the table, which is `table`.
+// Whether `index` is the one that SQLite makes for the primary key of `form`: unique, ascending, and in the
+// b-tree after that of the table, which is `table`.
 fn is_key_index(index: &Index, form: &TableForm, table: u32) -> bool
     ensures { IsTrue result ↔ (index.now ≡ key_index form.now.key_index.now table form.now.key.now) }
 {
@@ -189,8 +201,9 @@ fn is_key_index(index: &Index, form: &TableForm, table: u32) -> bool
         && index.is_unique
 }
 
-/// Whether `index`, in the b-tree `tree`, is the leaf index called `name` of the span table in the b-tree
-/// `table`: over `first`, `last`, `lower`, `upper`, `start`, `stop`, `priority`, `operator` and `id`.
+// Whether `index` is the leaf index `name`, in the b-tree `tree`, of the table of spans in the b-tree
+// `table`: not unique, ascending, over `first`, `last`, `lower`, `upper`, `start`, `stop`, `priority`,
+// `operator` and `id`.
 fn is_leaf_index(index: &Index, name: &[u8], tree: u32, table: u32) -> bool
     ensures { IsTrue result ↔ (index.now ≡ record (leaf_index_of name.now table) { tree = tree }) }
 {
@@ -202,10 +215,11 @@ fn is_leaf_index(index: &Index, name: &[u8], tree: u32, table: u32) -> bool
         && !index.is_unique
 }
 
-// A leaf index itself, or the index of a table's primary key.
+// As an index, a leaf index stands for itself, and a table for the index of its primary key.
 impl FormOf<Index> for DeskObject {
     ghost stands_for = { index_from };
 
+    // Whether `found` is that index, in its b-tree.
     fn describes(&self, found: &Index) -> bool {
         match self {
             DeskObject::KeyedTable(form, tree) => is_key_index(found, form, *tree),
@@ -216,14 +230,15 @@ impl FormOf<Index> for DeskObject {
     }
 }
 
-// Whether the database has no view.
+// Whether the database has no view. The library `sqlite` lists as a view also what it can't read, such as a
+// trigger.
 fn has_no_views(schema: &Schema) -> bool
     ensures { IsTrue result ↔ (schema.now.views ≡ []) }
 {
     schema.views.is_empty()
 }
 
-/// Whether the database has the tables and indexes `objects`, in this order, and nothing else.
+// Whether the database has the tables and indexes `objects`, in this order, and nothing else.
 fn has_objects(schema: &Schema, objects: &[DeskObject]) -> bool
     ensures { IsTrue result ↔ (schema.now ≡ schema_from objects.now) }
 {
@@ -232,7 +247,7 @@ fn has_objects(schema: &Schema, objects: &[DeskObject]) -> bool
         && has_no_views(schema)
 }
 
-/// Whether one of the desk's tables has this name, in either case.
+// Whether `name` is the name of one of the desk's tables. Upper and lower case don't matter, as in SQLite.
 fn is_own_name(name: &[u8]) -> bool
     ensures { result ≡ is_own_name name.now }
 {
@@ -244,7 +259,7 @@ fn is_own_name(name: &[u8]) -> bool
         || same_name(b"span2", name)
 }
 
-/// Whether none of these foreign keys refers to one of the desk's tables.
+// Whether none of the foreign keys `references` refers to one of the desk's tables.
 fn refer_elsewhere(references: &[Reference]) -> bool
     ensures { result ≡ list_all refers_elsewhere references.now }
 {
@@ -253,8 +268,8 @@ fn refer_elsewhere(references: &[Reference]) -> bool
         .all(|reference| !is_own_name(reference.parent.as_slice()))
 }
 
-/// Whether each of these tables has a b-tree behind the one before, the first behind `last`, and refers to
-/// none of the desk's tables.
+// Whether `tables` stand apart from the desk's: the numbers of their b-trees ascend, all above `last`, and
+// none of their foreign keys refers to one of the desk's tables.
 fn are_tables_apart(tables: &[Table], last: u32) -> bool
     ensures { result ≡ are_tables_apart last tables.now }
 {
@@ -268,15 +283,16 @@ fn are_tables_apart(tables: &[Table], last: u32) -> bool
     true
 }
 
-/// Whether none of these indexes is on one of the desk's tables.
+// Whether none of `indexes` is on one of the desk's tables, whose b-trees have numbers up to 13.
 fn are_indexes_apart(indexes: &[Index]) -> bool
     ensures { result ≡ list_all is_index_apart indexes.now }
 {
     indexes.iter().all(|index| index.table > 13)
 }
 
-/// Whether the database has all tables and indexes of a desk, in canonical order, and all others stand apart
-/// behind them.
+// Whether the database has all 6 tables and 8 indexes of a desk, in canonical order, and all others stand
+// apart behind them. Views need no test: a table with a trigger is listed among them, and none of the desk's
+// is.
 fn is_desk(schema: &Schema) -> bool
     ensures { IsTrue result ↔ IsDeskSchema schema.now }
 {
@@ -292,8 +308,8 @@ fn is_desk(schema: &Schema) -> bool
         && are_indexes_apart(other_indexes)
 }
 
-/// Whether the database has the tables and indexes of `made`, and nothing else but what stands apart beside a
-/// whole desk.
+// Whether the database has the tables and indexes of `made` and nothing else; but if `made` is `All`, others
+// may stand apart behind them.
 fn is_made(schema: &Schema, made: TablesPresent) -> bool
     ensures { IsTrue result ↔ IsSchemaOf made schema.now }
 {
@@ -303,8 +319,8 @@ fn is_made(schema: &Schema, made: TablesPresent) -> bool
     }
 }
 
-/// Which tables and indexes of the schema the database has; `None` if there is anything else but what stands
-/// apart beside a whole desk.
+/// Which tables and indexes of the schema the database has. `None` if it has anything else, but for what
+/// stands apart behind all of a desk's, or if it lists them in an order that is neither canonical nor packed.
 pub(crate) fn tables_present(schema: &Schema) -> Option<TablesPresent>
     ensures { MatchOption result ((made : TablesPresent) → ¬ IsSchemaOf made schema.now)
         (λ made. IsSchemaOf made schema.now) }

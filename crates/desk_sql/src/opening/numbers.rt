@@ -1,4 +1,5 @@
-//! Whether the rowids of the tables are integers, none of them twice.
+//! Whether the rowids of the tables are integers, each once. SQLite gives no others, but a damaged file may
+//! have them, and then a DELETE may remove other rows than those that it names.
 
 ghost use Rattle.std.specs.Prelude.{◌≡◌, ◌&&◌, List, [], ◌∷◌, true, false, IsTrue, OnOk, OnErr, IfErr};
 ghost use Rattle.sqlite.specs.{Order.Row as Values, Tree.rowid, State.HasCleanDisk, Held.state};
@@ -9,8 +10,8 @@ use crate::reading::taking::{RowVisitor, visit_rows};
 use sqlite::{Alter, Connection, Error, ErrorCode, Row};
 use sqlite_value::value::ValueRef;
 
-/// The rowid in the first column of `row` if it is an integer and greater than `last`, else `None`. If `last`
-/// is `None`, each integer is greater.
+// The rowid in the first column of `row`, if it is an integer greater than `last`; else `None`. `last` is the
+// rowid of the row before; for the first row it is `None`, and any integer will do.
 fn next_above(last: Option<i64>, row: &Row) -> Option<i64>
     ensures { result ≡ next_above last (rowid row.now) }
 {
@@ -23,8 +24,8 @@ fn next_above(last: Option<i64>, row: &Row) -> Option<i64>
     }
 }
 
-/// A visitor that checks rowids: `last` is the one before, and `rise` is whether each so far was an integer
-/// and greater than the one before.
+/// A visitor that checks rowids, which it gets in ascending order: `last` is the one before, and `rise` is
+/// whether each so far was an integer greater than the one before. One that comes twice doesn't rise.
 #[derive(Drop)]
 struct Rowids {
     last: Option<i64>,
@@ -32,7 +33,8 @@ struct Rowids {
 }
 
 impl Rowids {
-    // Checks the rowid in `row` against the one before. After a failed check, nothing more is checked.
+    // Checks the rowid in the first column of `row` against the one before. Once a check has failed, nothing
+    // more is checked.
     fn add(&mut self, row: &Row)
         ensures { (rest : List Values) → (self.new.rise && rises rest self.new.last)
             ≡ (self.old.rise && rises (row.now ∷ rest) self.old.last) }
@@ -47,7 +49,7 @@ impl Rowids {
     }
 }
 
-// It takes each row and refuses none. It has no part that rows don't change.
+// It takes each row and refuses none. Rows may change all of it, so `keeps` says nothing.
 impl RowVisitor for Rowids {
     ghost use Rattle.std.specs.Prelude.{⊤};
     ghost use Rattle.desk_sql.specs.Effects.{RiseSo};
@@ -58,13 +60,14 @@ impl RowVisitor for Rowids {
 
     ghost refuses = { λ taken row e. ⊥ };
 
+    // Checks the rowid in `row`. It never fails: what it found is in `rise`.
     fn take(&mut self, row: &Row) -> Result<(), Error> {
         self.add(row);
         Ok(())
     }
 }
 
-/// Returns the error `DatabaseCorrupt` unless `rise` is true: unless all rowids are rising integers.
+// `Ok` if `rise` is true, that is, if all rowids were rising integers; else the error `DatabaseCorrupt`.
 fn require_rising(rise: bool) -> Result<(), Error>
     ensures rising { OnOk result (rise ≡ true) }
     ensures broken { OnErr result (rise ≡ false) }
@@ -77,8 +80,8 @@ fn require_rising(rise: bool) -> Result<(), Error>
     }
 }
 
-/// The error of a query as it is reported: `OutOfMemory` instead of `TooBig`, which means too many rows to
-/// count.
+/// The error of a query as it is reported: `OutOfMemory` instead of `TooBig`, which comes if there are
+/// 2^64 - 1 rows or more. Any other error stays as it is.
 pub(crate) fn too_big_as_out_of_memory(error: Error) -> Error
     ensures { result ≡ too_big_as_out_of_memory error }
 {
@@ -110,7 +113,7 @@ pub enum DeskTable {
 }
 
 impl DeskTable {
-    /// Whether version 1 of the schema has the table.
+    /// Whether the table is one of version 1 of the schema: `operator`, `plan`, `volume` or `span`.
     pub(crate) fn is_old(self) -> bool
         ensures { result ≡ is_old self }
     {
@@ -121,7 +124,7 @@ impl DeskTable {
     }
 }
 
-/// The query of the rowids of `table`, ascending.
+/// The query of the rowids of `table`, ascending. In a packed file a table has the same name.
 pub(crate) fn rowids_text(table: DeskTable) -> &'static str
     ensures { SelectsAll table result.now (0 ∷ []) (λ db. rowids (db (tree_of table))) }
 {
@@ -137,8 +140,9 @@ pub(crate) fn rowids_text(table: DeskTable) -> &'static str
     }
 }
 
-/// Checks that the rowids of `table`, which exists, are integers, each once; else returns `DatabaseCorrupt`.
-/// Too many rows to count are reported as `OutOfMemory`.
+// Checks that the rowids of `table`, which the database must have, are integers, each once. The error is
+// `DatabaseCorrupt` if they aren't, `OutOfMemory` if there are 2^64 - 1 rows or more, or one of SQLite for
+// the query.
 fn test_rowids<S: Alter>(connection: &mut Connection<S>, table: DeskTable) -> Result<(), Error>
     requires ready { IsReady S.Store connection.old (HasTable table) }
     ensures numbered { OnOk result (Holds S.Store connection.new
@@ -158,8 +162,8 @@ fn test_rowids<S: Alter>(connection: &mut Connection<S>, table: DeskTable) -> Re
     }
 }
 
-/// Checks the rowids of `table`, as `test_rowids` does, if it is among `made`, the tables that the database
-/// has.
+// Checks the rowids of `table`, as `test_rowids` does, if it is among `made`, the tables that the database
+// has. Else it does nothing.
 fn test_rowids_if_made<S: Alter>(
     connection: &mut Connection<S>,
     made: TablesPresent,
@@ -180,11 +184,12 @@ fn test_rowids_if_made<S: Alter>(
     }
 }
 
-/// Checks the rowids of all tables of `made`, the tables that the database has.
+/// Checks the rowids of all tables of `made`, the tables that the database has. It changes nothing.
 ///
 /// # Errors
 ///
-/// `DatabaseCorrupt` if those of a table aren't integers, each once; and those of a query.
+/// `DatabaseCorrupt` if the rowids of a table aren't integers, each once. Those of SQLite if memory runs out,
+/// the disk fails or the connection's step limit is met.
 pub(crate) fn test_all_rowids<S: Alter>(
     connection: &mut Connection<S>,
     made: TablesPresent,

@@ -1,4 +1,9 @@
-//! The tables and indexes of the schema, in canonical and in packed order.
+//! The tables and indexes of the schema, in canonical and in packed order: how each is made, and how it is
+//! recognized.
+//!
+//! Canonical order is that in which the desk makes them. In packed order all tables come before the indexes,
+//! as after a VACUUM. Columns are numbered from 1. Each table and index has a b-tree; these are numbered from
+//! 0, in the order of the list, and the index of a table's primary key comes next to its table.
 
 ghost use Rattle.std.specs.Prelude.{◌≡◌};
 ghost use Rattle.desk_sql.specs.Schema.{schema_from, schema_of};
@@ -14,10 +19,10 @@ pub(crate) enum ColumnForm {
     OfBytes(&'static [u8]),
 }
 
-/// A foreign key.
+/// A foreign key of the columns `places` to the columns `parent_columns` of the table `parent`.
 #[derive(Clone, Copy)]
 pub(crate) struct ReferenceForm {
-    /// The places of the columns that refer.
+    /// The numbers of the columns that refer.
     pub(crate) places: &'static [usize],
     pub(crate) parent: &'static [u8],
     pub(crate) parent_columns: &'static [ColumnForm],
@@ -29,7 +34,7 @@ pub(crate) struct ReferenceForm {
 pub(crate) struct TableForm {
     pub(crate) name: &'static [u8],
     pub(crate) columns: &'static [ColumnForm],
-    /// The places of its primary key.
+    /// The numbers of its primary key's columns.
     pub(crate) key: &'static [usize],
     /// The name of the index that SQLite makes for the key.
     pub(crate) key_index: &'static [u8],
@@ -38,7 +43,8 @@ pub(crate) struct TableForm {
     pub(crate) sql: &'static str,
 }
 
-/// An index over the leaves of spans.
+/// A leaf index: over `first` and then the other columns of a table of spans, so that spans are found by
+/// their leaves.
 #[derive(Clone, Copy)]
 pub(crate) struct LeafForm {
     pub(crate) name: &'static [u8],
@@ -234,7 +240,8 @@ static PACKED: [DeskObject; 8] = [
     },
 ];
 
-/// The tables and indexes of `made`, in the order in which the file lists them: packed or canonical.
+/// The tables and indexes of `made`, in the order in which the file lists them: in packed order if `made` is
+/// `Packed`, else in canonical order.
 #[tactic(auto, unfolding(sqlite_tied::specs::Compute::everything))]
 pub(crate) fn objects(made: TablesPresent) -> &'static [DeskObject]
     ensures { schema_from result.now ≡ schema_of made }

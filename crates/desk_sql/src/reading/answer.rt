@@ -1,4 +1,4 @@
-//! All rows of a query.
+//! All rows of a query with parameters, as a list.
 
 ghost use Rattle.desk_sql.specs.{Rows.tables_of, Rows.Lists, Rows.IsDesk, Effects.IsReady, Queries.WasOpen, Queries.Answers, Queries.order_of, Queries.rows_of};
 
@@ -6,7 +6,11 @@ use crate::laws::committed_and_sound;
 use crate::reading::query::Query;
 use sqlite::{Alter, Connection, Error, Row};
 
-/// All rows of `query`, in its order. It changes no row, even if it fails.
+/// Runs `query` and returns all its rows, in the order that it asks for. It changes no row, even if it fails.
+///
+/// # Errors
+///
+/// Those of SQLite if memory runs out, the disk fails or the connection's step limit is met.
 pub(crate) fn query_rows<S: Alter>(
     connection: &mut Connection<S>,
     query: Query<'_>,
@@ -18,7 +22,7 @@ pub(crate) fn query_rows<S: Alter>(
 {
     // A law, which changes nothing: what the connection shows is committed and sound.
     committed_and_sound(connection);
-    // It fails on a connection that an error has shut, whose schema isn't known.
+    // It succeeds only on an open connection: an earlier failure of the disk may have closed it.
     let statement = connection.prepare(query.text())?;
     statement.query_all(connection, query.params().as_slice())
 }

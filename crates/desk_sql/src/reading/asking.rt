@@ -1,4 +1,4 @@
-//! All rows of a query without parameters.
+//! All rows of a query without parameters, as a list.
 
 ghost use Rattle.std.specs.Prelude.{[], OnOk};
 ghost use Rattle.sqlite.specs.{State.Shown, Held.state};
@@ -7,7 +7,12 @@ ghost use Rattle.desk_sql.specs.{Effects.StaysOpen, Effects.IsReady, Statements.
 use crate::laws::committed_and_sound;
 use sqlite::{Alter, Connection, Error, Row};
 
-/// All rows of the SQL query `query`, which has no parameters. It changes no row, even if it fails.
+/// Runs the SQL query `query`, which has no parameters, and returns all its rows. The query has to be valid
+/// under the database's schema. It changes no row, even if it fails.
+///
+/// # Errors
+///
+/// Those of SQLite if memory runs out, the disk fails or the connection's step limit is met.
 pub(crate) fn select_all<S: Alter>(
     connection: &mut Connection<S>,
     query: &str,
@@ -21,7 +26,7 @@ pub(crate) fn select_all<S: Alter>(
 {
     // A law, which changes nothing: what the connection shows is committed and sound.
     committed_and_sound(connection);
-    // It fails on a connection that an error has shut, whose schema isn't known.
+    // It succeeds only on an open connection: an earlier failure of the disk may have closed it.
     let statement = connection.prepare(query)?;
     statement.query_all(connection, &[])
 }

@@ -1,4 +1,7 @@
 //! The spans of other operators.
+//!
+//! A span is a run of leaf positions that follow each other on the S2 curve. Its row in `span2` also has the
+//! altitudes, the times and the priority of the plan's volume to which it belongs.
 
 ghost use Rattle.std.specs.Prelude.{[], filter, map, IsPermutation};
 ghost use Rattle.desk_sql.specs.{Rows.columns_from_first, Rows.tables_of, Rows.IsDesk, Rows.is_others_from, Effects.IsReady, Queries.WasOpen, Queries.HandsOut};
@@ -8,13 +11,15 @@ use crate::reading::rivals::SpanFilter;
 use crate::reading::taking::{RowVisitor, for_each_row};
 use sqlite::{Alter, Connection, Error};
 
-/// Passes to `visitor` the spans that `span_filter` selects and that begin at leaf position `low` or later,
-/// except those of the operator's plans: each row of `span2` from the column `first` on, ordered by that.
-/// Rows that begin before `low` or after `span_filter.last` aren't read. `visitor` has taken no row before.
+/// Passes to `visitor` the spans of operators other than `operator` that `span_filter` selects and that begin
+/// at the leaf position `low` or later (the filter's `first` bounds where they end). `visitor` gets the
+/// columns from `first` to `priority` of each row of `span2`, the rows in no given order. Rows that begin
+/// before `low` or after `span_filter.last` aren't read. `visitor` must not have taken a row before.
 ///
 /// # Errors
 ///
-/// Those of the query and of `visitor`, which may have taken some of the rows then.
+/// Those of SQLite if memory runs out, the disk fails or the connection's step limit is met; those of
+/// `visitor`; and `TooBig` from 2^64 - 1 rows on. `visitor` may have taken some of the rows then.
 pub fn other_spans<S: Alter, T: RowVisitor>(
     connection: &mut Connection<S>,
     operator: &str,

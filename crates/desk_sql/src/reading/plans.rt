@@ -1,4 +1,7 @@
 //! The spans of one plan.
+//!
+//! A span is a run of leaf positions that follow each other on the S2 curve. Its row in `span2` also has the
+//! altitudes, the times and the priority of the plan's volume to which it belongs.
 
 ghost use Rattle.std.specs.Prelude.{[], filter, map, IsPermutation};
 ghost use Rattle.desk_sql.specs.{Rows.columns_from_first, Rows.tables_of, Rows.IsDesk, Rows.is_plan_span, Effects.IsReady, Queries.WasOpen, Queries.HandsOut};
@@ -8,13 +11,14 @@ use crate::reading::rivals::SpanFilter;
 use crate::reading::taking::{RowVisitor, for_each_row};
 use sqlite::{Alter, Connection, Error};
 
-/// Passes to `visitor` the spans of the operator's plan `id` that `span_filter` selects: each row of `span2`
-/// from the column `first` on, in no given order. They are looked up by key, so that no row of another plan
-/// is read. `visitor` has taken no row before.
+/// Passes to `visitor` the spans of the operator's plan `id` that `span_filter` selects. `visitor` gets the
+/// columns from `first` to `priority` of each row of `span2`, the rows in no given order. They are looked up
+/// by key, so that no row of another plan is read. `visitor` must not have taken a row before.
 ///
 /// # Errors
 ///
-/// Those of the query and of `visitor`, which may have taken some of the rows then.
+/// Those of SQLite if memory runs out, the disk fails or the connection's step limit is met; those of
+/// `visitor`; and `TooBig` from 2^64 - 1 rows on. `visitor` may have taken some of the rows then.
 pub fn plan_spans<S: Alter, T: RowVisitor>(
     connection: &mut Connection<S>,
     operator: &str,

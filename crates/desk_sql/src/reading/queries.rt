@@ -1,4 +1,4 @@
-//! The queries of an open store for plans.
+//! The queries of an open store for plans. Columns are counted from 0.
 
 ghost use Rattle.std.specs.Prelude.{[], ◌∷◌, filter};
 ghost use Rattle.desk_sql.specs.Rows.{is_row_by, is_of, tables_of, with_volumes, Lists, IsDesk};
@@ -9,8 +9,12 @@ use crate::reading::query::Query;
 use crate::reading::taking::{RowVisitor, for_each_row};
 use sqlite::{Alter, Connection, Error, Row};
 
-/// The row of the operator's plan `id`, or no row if it isn't stored: `operator`, `id`, `priority`, `usage`,
-/// `aircraft`.
+/// The row of the operator's plan `id`, in a list that is empty if the plan isn't stored. Its columns are
+/// `operator`, `id`, `priority`, `usage` and `aircraft`.
+///
+/// # Errors
+///
+/// Those of SQLite if memory runs out, the disk fails or the connection's step limit is met.
 pub fn plan_of<S: Alter>(
     connection: &mut Connection<S>,
     operator: &str,
@@ -24,8 +28,12 @@ pub fn plan_of<S: Alter>(
     query_rows(connection, Query::PlanOf { operator, id })
 }
 
-/// The rows of the volumes of the operator's plan `id`, ordered by place (column 2): `operator`, `id`,
-/// `place`, `lower`, `upper`, `start`, `stop`, `asked`.
+/// The rows of the volumes of the operator's plan `id`, ordered by place (column 2); none if the plan isn't
+/// stored. Their columns are `operator`, `id`, `place`, `lower`, `upper`, `start`, `stop` and `asked`.
+///
+/// # Errors
+///
+/// Those of SQLite if memory runs out, the disk fails or the connection's step limit is met.
 pub fn volumes_of<S: Alter>(
     connection: &mut Connection<S>,
     operator: &str,
@@ -40,13 +48,14 @@ pub fn volumes_of<S: Alter>(
     query_rows(connection, Query::VolumesOf { operator, id })
 }
 
-/// Passes to `visitor` each plan of an operator with each of its volumes, ordered by id (column 1) and place
-/// (column 5): the columns of `plan`, and then those of `volume2` from `place` to `asked`. A plan without
-/// volumes has no row.
+/// Passes to `visitor` one row for each volume of each plan of `operator`, ordered by the plan's id (column
+/// 1) and the volume's place (column 5): the columns of `plan`, and then those of `volume2` from `place` to
+/// `asked`. A plan without volumes has no row. `visitor` must not have taken a row before.
 ///
 /// # Errors
 ///
-/// Those of the query and of `visitor`, which may have taken some of the rows then.
+/// Those of SQLite if memory runs out, the disk fails or the connection's step limit is met; those of
+/// `visitor`; and `TooBig` from 2^64 - 1 rows on. `visitor` may have taken some of the rows then.
 pub fn own_plans<S: Alter, T: RowVisitor>(
     connection: &mut Connection<S>,
     operator: &str,

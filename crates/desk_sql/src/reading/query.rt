@@ -1,4 +1,7 @@
-//! The queries with parameters.
+//! The queries with parameters: their SQL, and the values of the parameters.
+//!
+//! A span filter (`SpanFilter`) has seven parameters, `?1` to `?7`: its `last`, `first`, `upper`, `lower`,
+//! `stop`, `start` and `priority`. Columns are counted from 0.
 
 ghost use Rattle.std.specs.Prelude.{◌≡◌, [], ◌∷◌, ℕ, ℤ, List, filter, map};
 ghost use Rattle.sqlite.specs.declared.types.Value.TheVariants.{Text};
@@ -11,8 +14,8 @@ use crate::parameters::Parameters;
 use crate::reading::rivals::SpanFilter;
 use sqlite::params;
 
-// NULL in place of a plan's id. No comparison with NULL is true, so that the query of rivals then leaves out
-// all spans of the operator.
+// NULL, given to `spans_but_text` in place of a plan's id. No comparison with NULL is true, so that the query
+// then leaves out all spans of the operator.
 const NO_ID: Option<&'static str> = None;
 
 /// A query with the values of its parameters.
@@ -32,22 +35,22 @@ pub(crate) enum Query<'a> {
     OwnPlans {
         operator: &'a str,
     },
-    /// The spans that `span_filter` selects and that begin at `low` or later, except those of one plan,
-    /// ordered by `first`.
+    /// The spans that `span_filter` selects and that begin at the leaf position `low` or later, except those
+    /// of the operator's plan `id`, ordered by `first`.
     RivalSpans {
         operator: &'a str,
         id: &'a str,
         span_filter: SpanFilter,
         low: i64,
     },
-    /// The spans that `span_filter` selects and that begin at `low` or later, except those of one operator,
-    /// ordered by `first`.
+    /// The spans that `span_filter` selects and that begin at the leaf position `low` or later, except those
+    /// of the operator, ordered by `first`.
     OtherSpans {
         operator: &'a str,
         span_filter: SpanFilter,
         low: i64,
     },
-    /// The spans of one plan that `span_filter` selects.
+    /// The spans of the operator's plan `id` that `span_filter` selects, in no given order.
     SpansOf {
         operator: &'a str,
         id: &'a str,
@@ -56,7 +59,8 @@ pub(crate) enum Query<'a> {
 }
 
 impl<'a> Query<'a> {
-    /// The query as SQL. Its parameters `?1`, `?2` and so on are those that `params` returns.
+    /// The query as SQL. Its parameters `?1`, `?2` and so on are those that `params` returns. `RivalSpans`
+    /// and `OtherSpans` have the same text: they differ in the id, which is NULL for `OtherSpans`.
     pub(crate) fn text(self) -> &'static str
         ensures { Selects result.now (params_of self.entry) (order_of self.entry) (rows_of self.entry) }
     {
@@ -70,7 +74,7 @@ impl<'a> Query<'a> {
         }
     }
 
-    /// The values of the query's parameters, in the order of their numbers.
+    /// The values of the query's parameters, in the order of their numbers. A span filter's come first.
     pub(crate) fn params(self) -> Parameters<'a>
         ensures { result ≡ params_of self.entry }
     {
@@ -105,7 +109,7 @@ impl<'a> Query<'a> {
     }
 }
 
-// The query of the row of one plan.
+// The query of the row of operator `?1`'s plan `?2`.
 fn plan_of_text() -> &'static str
     ensures { (operator id : List ℕ) → Selects result.now (Text operator ∷ Text id ∷ []) []
         (λ t. filter (is_of operator id) t.plans) }
@@ -113,7 +117,7 @@ fn plan_of_text() -> &'static str
     "SELECT operator, id, priority, usage, aircraft FROM plan WHERE operator = ?1 AND id = ?2"
 }
 
-// The query of the volumes of one plan, ordered by place (column 2).
+// The query of the volumes (without `canon`) of operator `?1`'s plan `?2`, ordered by place (column 2).
 fn volumes_of_text() -> &'static str
     ensures { (operator id : List ℕ) → Selects result.now (Text operator ∷ Text id ∷ []) (2 ∷ [])
         (λ t. filter (is_of operator id) t.volumes) }
@@ -122,8 +126,8 @@ fn volumes_of_text() -> &'static str
      WHERE operator = ?1 AND id = ?2 ORDER BY place"
 }
 
-// The query of each plan of an operator with each of its volumes, ordered by id (column 1) and place
-// (column 5).
+// The query of each plan of the operator `?1` with each of its volumes: one row for each volume, ordered by
+// the plan's id (column 1) and the volume's place (column 5).
 fn own_plans_text() -> &'static str
     ensures { (operator : List ℕ) → Selects result.now (Text operator ∷ []) (1 ∷ 5 ∷ [])
         (with_volumes (is_row_by operator)) }
@@ -134,9 +138,9 @@ fn own_plans_text() -> &'static str
      WHERE plan.operator = ?1 ORDER BY plan.id, volume2.place"
 }
 
-// The query of the spans that the filter (`?1` to `?7`) selects and that begin at `?10` or later, except
-// those of one plan (`?8` and `?9`), or of one operator if the id `?9` is NULL. They are ordered by `first`
-// (column 0).
+// The query of the spans that the filter (`?1` to `?7`) selects and that begin at the leaf position `?10` or
+// later, except those of operator `?8`'s plan `?9`, or of all its plans if `?9` is NULL. They are ordered by
+// `first` (column 0).
 fn spans_but_text() -> &'static str
     ensures rivals { (operator id : List ℕ) (span_filter : Reach) (low : ℤ) → Selects result.now
         (rival_params operator id span_filter low) (0 ∷ [])
@@ -151,7 +155,8 @@ fn spans_but_text() -> &'static str
      ORDER BY first"
 }
 
-// The query of the spans of one plan (`?8` and `?9`) that the filter (`?1` to `?7`) selects.
+// The query of the spans of operator `?8`'s plan `?9` that the filter (`?1` to `?7`) selects, in no given
+// order.
 fn plan_spans_text() -> &'static str
     ensures { (operator id : List ℕ) (span_filter : Reach) → Selects result.now
         (plan_params operator id span_filter) []

@@ -1,4 +1,7 @@
-//! The rows of a query, passed on one at a time.
+//! The rows of a query, passed on one at a time to a visitor.
+//!
+//! A call fails with an SQLite error if memory runs out, the disk fails or has failed, or the connection's
+//! step limit is met. It also fails with an error of the visitor for the row that it gets.
 
 ghost use Rattle.std.specs.Prelude.{◌≡◌, List, [], OnOk, IsTrue};
 ghost use Rattle.sqlite.specs.{Order.Row as Values, Values.bound, State.HasCleanDisk, State.IsUnchanged, State.Shown, Held.state};
@@ -10,7 +13,8 @@ use crate::reading::query::Query;
 use sqlite::{Alter, Connection, Error, ErrorCode, Row, Rows};
 use sqlite_value::value::ValueRef;
 
-/// A visitor takes the rows of a query, one at a time.
+/// A visitor takes the rows of a query, one at a time. The ghosts say in contracts what it has taken and what
+/// it refuses.
 pub trait RowVisitor {
     ghost use Rattle.std.specs.Prelude.{List, [], ◌∷◌, ◌++◌, IfErr};
     ghost use Rattle.sqlite.specs.Order.{Row};
@@ -23,15 +27,16 @@ pub trait RowVisitor {
     /// Whether, after these rows, this one may be refused with this error.
     ghost refuses: { List Row → Row → Error → Type 0 };
 
-    /// Whether the visitor, the second argument, still has what taking rows does not change: what it had at
-    /// the start, as the first argument.
+    /// Whether the visitor as it is now (the second argument) still has what it had at the start (the first),
+    /// as far as taking rows doesn't change it.
     ghost keeps: { Self → Self → Type 0 };
 
     /// Takes the next row.
     ///
     /// # Errors
     ///
-    /// `OutOfMemory` if memory runs out, and another error if the row isn't one that is expected here.
+    /// `OutOfMemory` if memory runs out, and another error if the row isn't one that the visitor accepts
+    /// (`refuses`). Nothing is known of the visitor then.
     fn take(&mut self, row: &Row) -> Result<(), Error>
         ensures taken { OnOk result ((rows : List Row) → has_taken self.old rows
             → has_taken self.new (rows ++ row.now ∷ [])) }
@@ -40,7 +45,8 @@ pub trait RowVisitor {
             → refuses rows row.now e) };
 }
 
-/// Passes the next row to `visitor` and returns true; returns false if there is none.
+// Passes the next row to `visitor` and returns true; returns false if all rows were passed. An error is one
+// of the query or one of `visitor` for this row.
 // Long: what is passed, and what holds whatever bytes the disk returned.
 fn visit_next<S: Alter, T: RowVisitor>(
     rows: &mut Rows<'_, S>,
@@ -68,11 +74,8 @@ fn visit_next<S: Alter, T: RowVisitor>(
     }
 }
 
-/// Passes each row that is left to `visitor`.
-///
-/// # Errors
-///
-/// Those of the query and of `visitor`; `TooBig` if there are 2^64 - 1 rows or more.
+// Passes each row that is left to `visitor`. An error is one of the query, one of `visitor` for a row, or
+// `TooBig` if there are 2^64 - 1 rows or more: counting them makes sure that the loop ends.
 // Long: what is passed, and what holds whatever bytes the disk returned.
 fn visit_all<S: Alter, T: RowVisitor>(rows: &mut Rows<'_, S>, visitor: &mut T) -> Result<(), Error>
     requires { HasCleanDisk (state S.Store rows.old.conn.now)
@@ -94,12 +97,13 @@ fn visit_all<S: Alter, T: RowVisitor>(rows: &mut Rows<'_, S>, visitor: &mut T) -
     Err(Error::SqliteFailure(ErrorCode::TooBig))
 }
 
-/// Passes each row of the SQL query `sql`, with the parameters `params`, to `visitor`, which has taken no
-/// row before. It changes no row, even if it fails.
+/// Runs the SQL query `sql` with the parameters `params`, and passes each row to `visitor`, which must not
+/// have taken a row before. It changes no row, even if it fails.
 ///
 /// # Errors
 ///
-/// Those of `visit_all`.
+/// Those of SQLite if memory runs out, the disk fails or the connection's step limit is met; those of
+/// `visitor`; and `TooBig` from 2^64 - 1 rows on. `visitor` may have taken some of the rows then.
 // Long: what is passed, that the connection is open, and what holds whatever bytes the disk returned.
 pub(crate) fn visit_rows<S: Alter, T: RowVisitor>(
     connection: &mut Connection<S>,
@@ -120,18 +124,19 @@ pub(crate) fn visit_rows<S: Alter, T: RowVisitor>(
 {
     // A law, which changes nothing: what the connection shows is committed and sound.
     committed_and_sound(connection);
-    // It fails on a connection that an error has shut, whose schema isn't known.
+    // It succeeds only on an open connection: an earlier failure of the disk may have closed it.
     let statement = connection.prepare(sql)?;
     let mut rows = connection.query_prepared(&statement, params)?;
     visit_all(&mut rows, visitor)
 }
 
-/// Passes each row of `query`, in its order, to `visitor`, which has taken no row before. It changes no row,
-/// even if it fails.
+/// Runs `query` and passes each row to `visitor`, in the order that the query asks for. `visitor` must not
+/// have taken a row before. It changes no row, even if it fails.
 ///
 /// # Errors
 ///
-/// Those of `visit_all`.
+/// Those of SQLite if memory runs out, the disk fails or the connection's step limit is met; those of
+/// `visitor`; and `TooBig` from 2^64 - 1 rows on. `visitor` may have taken some of the rows then.
 // Long: what is passed, that the connection is open, and what holds whatever bytes the disk returned.
 pub(crate) fn for_each_row<S: Alter, T: RowVisitor>(
     connection: &mut Connection<S>,

@@ -1,4 +1,7 @@
 //! All rows of `volume2`, as they are read when a store is opened.
+//!
+//! A file in canonical order lists tables and indexes as the desk makes them; a packed file lists all tables
+//! before the indexes. So `volume2` has another b-tree in a packed file, and the same name and columns.
 
 ghost use Rattle.std.specs.Prelude.{◌≡◌, Bool, true, List, [], ◌∷◌, map, OnOk};
 ghost use Rattle.sqlite.specs.Order.{Row as Values};
@@ -9,7 +12,8 @@ use crate::opening::numbers::DeskTable;
 use crate::reading::taking::{RowVisitor, visit_rows};
 use sqlite::{Alter, Connection, Error};
 
-/// `volume2`, in the b-tree that it has in a packed file if `packed` is true, else in canonical order.
+/// The table `volume2`, with the b-tree that it has in a packed file if `packed` is true, else with that in
+/// canonical order.
 pub(crate) fn volume_table(packed: bool) -> DeskTable
     ensures { result ≡ volume_table_in packed }
 {
@@ -20,7 +24,8 @@ pub(crate) fn volume_table(packed: bool) -> DeskTable
     }
 }
 
-// The query of all rows of `volume2`, ordered by its key: `operator`, `id` and `place` (columns 0 to 2).
+// The query of all rows of `volume2`, ordered by its key: `operator`, `id` and `place` (columns 0 to 2). It
+// is the same for a packed file.
 fn volumes_text() -> &'static str
     ensures { (packed : Bool) → SelectsAll (volume_table_in packed) result.now (0 ∷ 1 ∷ 2 ∷ [])
         (λ db. map (columns 9) (db (tree_of (volume_table_in packed)))) }
@@ -29,13 +34,14 @@ fn volumes_text() -> &'static str
      ORDER BY operator, id, place"
 }
 
-/// Passes all rows of `volume2` to `visitor`, ordered by key: `operator`, `id`, `place`, `lower`, `upper`,
-/// `start`, `stop`, `asked`, `canon`. `made` are the tables that the database has; without `volume2` there
-/// are no rows. `visitor` has taken no row before.
+/// Passes all rows of `volume2` to `visitor`, ordered by their key `operator`, `id`, `place`. Their further
+/// columns are `lower`, `upper`, `start`, `stop`, `asked` and `canon`. `made` are the tables that the
+/// database has; without `volume2` there are no rows. `visitor` must not have taken a row before.
 ///
 /// # Errors
 ///
-/// Those of the query and of `visitor`; `TooBig` if there are 2^64 - 1 rows or more.
+/// Those of SQLite if memory runs out, the disk fails or the connection's step limit is met; those of
+/// `visitor`; and `TooBig` from 2^64 - 1 rows on. `visitor` may have taken some of the rows then.
 // Long: what is passed, that the connection is open, and what holds whatever bytes the disk returned.
 pub fn each_volume<S: Alter, T: RowVisitor>(
     connection: &mut Connection<S>,

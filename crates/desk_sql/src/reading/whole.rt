@@ -1,4 +1,7 @@
 //! All rows of a table, as they are read when a store is opened.
+//!
+//! A file in canonical order lists tables and indexes as the desk makes them; a packed file lists all tables
+//! before the indexes. So `span2` has another b-tree in a packed file, and the same name and columns.
 
 ghost use Rattle.std.specs.Prelude.{◌≡◌, true, OnOk, List, []};
 ghost use Rattle.sqlite.specs.Order.{Row as Values};
@@ -29,7 +32,8 @@ pub enum WholeTable {
 }
 
 impl WholeTable {
-    /// The table, in the b-tree that it has in a packed file if `packed` is true, else in canonical order.
+    /// The table, with the b-tree that it has in a packed file if `packed` is true, else with that in
+    /// canonical order.
     pub(crate) fn table(self, packed: bool) -> DeskTable
         ensures { result ≡ table_in self packed }
     {
@@ -43,7 +47,7 @@ impl WholeTable {
         }
     }
 
-    /// The query of all rows, ordered by the table's key.
+    // The query of all rows, ordered by the table's key. It is the same for a packed file.
     fn text(self) -> &'static str
         ensures { ShowsWhole self result.now }
     {
@@ -96,7 +100,11 @@ fn spans_text() -> &'static str
 }
 
 /// All rows of `whole_table`, ordered by its key. `made` are the tables that the database has; without this
-/// table there are no rows. The list is in memory from `alloc` then.
+/// table there are no rows, and the list is empty, with the allocator `alloc`.
+///
+/// # Errors
+///
+/// Those of SQLite if memory runs out, the disk fails or the connection's step limit is met.
 pub fn all_rows<S: Alter>(
     alloc: Global,
     connection: &mut Connection<S>,
@@ -118,12 +126,13 @@ pub fn all_rows<S: Alter>(
     }
 }
 
-/// Passes all rows of `whole_table` to `visitor`, which has taken no row before, ordered by its key. `made`
-/// are the tables that the database has; without this table there are no rows.
+/// Passes all rows of `whole_table` to `visitor`, ordered by its key. `made` are the tables that the database
+/// has; without this table there are no rows. `visitor` must not have taken a row before.
 ///
 /// # Errors
 ///
-/// Those of the query and of `visitor`; `TooBig` if there are 2^64 - 1 rows or more.
+/// Those of SQLite if memory runs out, the disk fails or the connection's step limit is met; those of
+/// `visitor`; and `TooBig` from 2^64 - 1 rows on. `visitor` may have taken some of the rows then.
 // Long: what is passed, that the connection is open, and what holds whatever bytes the disk returned.
 pub fn each_row<S: Alter, T: RowVisitor>(
     connection: &mut Connection<S>,

@@ -1,4 +1,5 @@
-//! Changes of a store's tables.
+//! Changes of a store's tables. Columns of rows are counted from 0. A parameter `next` is the state of the
+//! database after a change, which only contracts read.
 
 ghost use Rattle.std.specs.Prelude.{◌≡◌, ◌<◌, ◌^◌, pos, IfOk, IfErr};
 ghost use Rattle.sqlite_value.specs.declared.value.Value.TheVariants.{Int};
@@ -30,8 +31,8 @@ use sqlite_trees::store::Alter;
 use volume4d::laws::covers_are_few;
 
 impl<S: Alter> DeskTables<S> {
-    /// Applies `change`, which has to fit the state, in one transaction. `span_bounds` hold before the
-    /// change; returned are those that hold after it.
+    /// Applies `change`, which has to fit the state, in one transaction. `span_bounds` hold for the spans of
+    /// the live plans before the change; the returned ones also hold for those that it adds.
     ///
     /// # Errors
     ///
@@ -58,14 +59,14 @@ impl<S: Alter> DeskTables<S> {
         Ok(before)
     }
 
-    // The state after `change`.
+    // The state after `change`, for contracts alone.
     fn state_after(&self, change: &Change) -> GhostState
         ensures { result.world ≡ changed_by change.now self.now.world }
     {
         GhostState::after(&self.kept, change)
     }
 
-    // Adds an operator with `ceiling`, or replaces its ceiling; `next` is the state after it.
+    // Adds `operator` with `ceiling`, or replaces its ceiling if it is there; `next` is the state after that.
     fn enrol(
         &mut self,
         operator: &Operator,
@@ -81,8 +82,9 @@ impl<S: Alter> DeskTables<S> {
         advance_if_committed(&mut self.kept, committed, next, (), self.reported)
     }
 
-    // Stores the plan `row` with its volumes and, if it is live, their spans, instead of the plan of the same
-    // id; `next` is the state after it. It returns the span bounds after it.
+    // Stores the plan `row` with its volumes and, if it is live, their spans, in place of the operator's plan
+    // of the same id, if there is one. `next` is the state after that. Returns span bounds that hold for the
+    // spans for which `span_bounds` hold, and for those of `row`.
     fn put(
         &mut self,
         span_bounds: &SpanBounds,
@@ -109,6 +111,8 @@ impl<S: Alter> DeskTables<S> {
             usage: usage_number(row.usage),
             aircraft: aircraft_number(row.aircraft),
         };
+        // Laws, which change nothing: a set of leaves has only one list of ranges; a cover has at most 1,024
+        // cells.
         one_list_of_ranges();
         covers_are_few();
         let committed = put_plan(&mut self.connection, head, &volumes, &spans);
@@ -116,9 +120,9 @@ impl<S: Alter> DeskTables<S> {
         advance_if_committed(&mut self.kept, committed, next, after, self.reported)
     }
 
-    // Closes the operator's plan `id`: its spans are removed, and else only its usage changes. Its row is
-    // written whole, so its priority and the state of its aircraft are read first. `next` is the state after
-    // it.
+    // Closes the operator's plan `id`: its usage changes, and its spans are removed; all else of it stays.
+    // Its row is written whole, so its priority and the state of its aircraft are read first. `next` is the
+    // state after that. `Store` also if the plan has no row, or one that isn't that of a plan.
     fn close(
         &mut self,
         operator: &Operator,
@@ -147,7 +151,7 @@ impl<S: Alter> DeskTables<S> {
         advance_if_committed(&mut self.kept, committed, next, (), self.reported)
     }
 
-    // Removes the operator's plans `ids` with all their rows; `next` is the state after it.
+    // Removes the operator's plans `ids` with all their rows; `next` is the state after that.
     fn clear(
         &mut self,
         operator: &Operator,
@@ -164,8 +168,8 @@ impl<S: Alter> DeskTables<S> {
     }
 }
 
-// The priority and the number that stands for the state of the aircraft in `head`, a row of `plan`: its third
-// and fifth columns. `Store` if they aren't those of a plan.
+// The priority (column 2) and the number that stands for the state of the aircraft (column 4) in `head`, a
+// row of `plan`. `Store` if one of them isn't an unsigned number of 32 bits.
 fn numbers_in(head: &Row) -> Result<(u32, u32), StoreFault>
     ensures priority { IfOk result (λ found. column head.now 2 ≡ Int (pos found.0)) }
     ensures aircraft { IfOk result (λ found. column head.now 4 ≡ Int (pos found.1)) }
@@ -177,8 +181,8 @@ fn numbers_in(head: &Row) -> Result<(u32, u32), StoreFault>
     Ok((priority, aircraft))
 }
 
-// If SQLite committed a change, as `committed` says, the state `kept` becomes `next`, and `answer` is
-// returned. Else the state stays, and SQLite's error is returned as a fault, an I/O error as `reported`.
+// If SQLite committed a change, as `committed` says, `kept` becomes `next`, and `answer` is returned. Else
+// `kept` stays, and the fault for SQLite's error is returned, with an I/O error as `reported`.
 fn advance_if_committed<T: Copy>(
     kept: &mut GhostState,
     committed: Result<(), Error>,

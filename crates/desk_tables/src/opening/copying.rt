@@ -1,4 +1,4 @@
-//! Writes a database state into a new database.
+//! Writes a database state, that is, operators with their ceilings and their plans, into a new database.
 
 ghost use Rattle.std.specs.Prelude.{◌≡◌, List, ◌∷◌, false, IfOk, IfErr, OnOk, None};
 ghost use Rattle.sqlite.specs.{State.HasCleanDisk, Held.state};
@@ -29,13 +29,14 @@ use table_load::finding::create_tables;
 use table_load::moving::write_plans;
 use volume4d::laws::covers_are_few;
 
-/// Makes a store with the state `content`, whose indexes in memory are `known`, over a connection to a
-/// database that has to have no table. The tables are made in one transaction, and all rows added in another.
+/// Makes a store with the state `content` over a connection to a database that has to have no table; `known`
+/// are the indexes in memory of this state. The tables are made in one transaction, and all rows are added in
+/// another.
 ///
 /// # Errors
 ///
 /// The connection, and `OutOfMemory` if memory runs out; `Store` if there is a table, or if SQLite fails for
-/// another cause.
+/// another cause. The database may have tables then.
 // Long: the facts on the state, the file and the store have clauses of their own.
 pub(crate) fn store_of<S: Alter + Drop>(
     alloc: Global,
@@ -62,7 +63,8 @@ pub(crate) fn store_of<S: Alter + Drop>(
 }
 
 // Makes the tables in a database that has to have none, and adds all rows of `content`; returns this state.
-// If it fails, there may be tables without rows.
+// `Store` if there is a table, or if SQLite fails; `OutOfMemory` if memory runs out. The database may have
+// tables without rows then.
 fn make_world<S: Alter>(
     alloc: Global,
     connection: &mut Connection<S>,
@@ -84,7 +86,7 @@ fn make_world<S: Alter>(
     Ok(GhostState::of(content))
 }
 
-// Checks that the database has no table; else `Store`.
+// Checks that the database has no table; `Store` if it has one. It changes nothing.
 fn require_blank<S: Alter>(connection: &mut Connection<S>) -> Result<(), OpenFault>
     requires rest { IsAtRest connection.old }
     ensures blank { OnOk result (Holds S.Store connection.new (IsMadeTo TablesPresent.Nothing)) }
@@ -101,7 +103,7 @@ fn require_blank<S: Alter>(connection: &mut Connection<S>) -> Result<(), OpenFau
     Ok(())
 }
 
-// Adds all rows of `operators` and `plans`, in one transaction.
+// Adds all rows of `operators` and `plans` to tables without rows, in one transaction.
 // Long: success, failure and its cause, and the end of the transaction have a clause each.
 fn fill<S: Alter>(
     alloc: Global,
@@ -120,6 +122,7 @@ fn fill<S: Alter>(
         → IfErr result (BlamesReading S.Store connection.old connection.new) }
     ensures over { IsOver S.Store connection.old connection.new }
 {
+    // A law, which changes nothing: what the connection shows is committed and sound.
     committed_and_sound(connection);
     let mut tx = connection.transaction();
     write_world(alloc, &mut tx, operators, plans)?;
@@ -127,7 +130,7 @@ fn fill<S: Alter>(
     Ok(())
 }
 
-// Adds all rows of `operators` and `plans`, within a transaction.
+// Adds all rows of `operators` and `plans` to tables without rows, within a transaction.
 fn write_world<S: Alter>(
     alloc: Global,
     tx: &mut Transaction<'_, S>,
@@ -145,13 +148,14 @@ fn write_world<S: Alter>(
         → IfErr result (BlamesReading S.Store tx.old.conn.now tx.new.conn.now) }
     ensures remembered { Remembers S.Store tx.old.conn.now tx.new.conn.now }
 {
+    // A law, which changes nothing: a cover has at most 1,024 cells.
     covers_are_few();
     write_operators(tx, operators)?;
     write_heads(tx, plans)?;
     write_plans(alloc, tx, plans)
 }
 
-// Adds the rows of `operators`, within a transaction.
+// Adds the rows of `operators` to the table `operator`, within a transaction. They must not be there yet.
 fn write_operators<S: Alter>(
     tx: &mut Transaction<'_, S>,
     operators: &[ListedOperator],
@@ -171,7 +175,8 @@ fn write_operators<S: Alter>(
     Ok(())
 }
 
-// Adds the row of the operator `listed`, within a transaction.
+// Adds the row of the operator `listed` to the table `operator`, within a transaction. It must not be there
+// yet.
 // Long: what it adds, and that there is room for the rows that the next calls add.
 fn write_operator<S: Alter>(
     tx: &mut Transaction<'_, S>,
@@ -195,7 +200,8 @@ fn write_operator<S: Alter>(
     Ok(())
 }
 
-// Adds the rows of `plans` in the table `plan`, within a transaction.
+// Adds the rows of `plans` to the table `plan`, within a transaction. They must not be there yet. Their
+// volumes and spans are added later.
 fn write_heads<S: Alter>(tx: &mut Transaction<'_, S>, plans: &[FiledPlan]) -> Result<(), OpenFault>
     requires under_way { IsUnderWay S.Store tx.old.conn.now }
     ensures same_reference { tx.new.conn.ghost_name ≡ tx.old.conn.ghost_name }
@@ -212,7 +218,8 @@ fn write_heads<S: Alter>(tx: &mut Transaction<'_, S>, plans: &[FiledPlan]) -> Re
     Ok(())
 }
 
-// Adds the row of `plan` in the table `plan`, within a transaction.
+// Adds the row of `plan` to the table `plan`, within a transaction. It must not be there yet. Its volumes and
+// spans are added later.
 // Long: what it adds, and that there is room for the rows that the next calls add.
 fn write_head<S: Alter>(tx: &mut Transaction<'_, S>, plan: &FiledPlan) -> Result<(), OpenFault>
     requires under_way { IsUnderWay S.Store tx.old.conn.now }

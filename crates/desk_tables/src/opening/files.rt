@@ -1,4 +1,7 @@
-//! Opens stores of plans over files.
+//! Opens stores of plans over files: a database file and its WAL. A parameter `start: S` stands for what the
+//! files held before, which only contracts read; `S` also says what a torn write is assumed to leave. A state
+//! has the operators with their ceilings, and all plans; it is valid if it keeps the desk's limits. Schema 1
+//! is the older one, whose rows are in `volume` and `span`.
 
 ghost use Rattle.std.specs.Prelude.{◌≡◌, IfErr, IfOk, MatchResult};
 ghost use Rattle.sqlite_wal.specs.{Files.image_at, Recovery.Image};
@@ -58,13 +61,13 @@ pub enum CopyFault<D: Disk, E: Disk> {
 
 impl<S: Start> SqliteStore<FileStore<FileFrom<S>>> {
     /// Opens the store over the database in the files at `path`, as `adopt` does. The files are made if they
-    /// aren't there. `start` says what they held.
+    /// aren't there. `start` stands for what they held.
     ///
     /// # Errors
     ///
     /// The connection, if there was one, and `OutOfMemory` if memory runs out. `Store` if the files can't be
-    /// opened, or if SQLite fails for another cause. `OldSchema` if there are rows of schema 1. `NotADesk`
-    /// if the tables aren't a desk's, or if their rows aren't those of a valid state.
+    /// opened, or if SQLite fails for another cause. `OldSchema` if there are rows of schema 1. `NotADesk` if
+    /// the tables aren't a desk's, or if their rows aren't those of a valid state.
     pub fn open_from(
         rt: &HostRuntime,
         path: &str,
@@ -88,13 +91,14 @@ impl<S: Start> SqliteStore<FileStore<FileFrom<S>>> {
     }
 
     /// Opens the store over the database in the files at `path`, which it migrates if it is of schema 1, as
-    /// `adopt_old` does. Also returned is how many plans were migrated. `start` says what the files held.
+    /// `adopt_old` does. Also returned is how many plans were migrated. `start` stands for what the files
+    /// held.
     ///
     /// # Errors
     ///
-    /// The connection, if there was one, and `OutOfMemory` if memory runs out. `Store` if there is no file,
-    /// if the files can't be opened, or if SQLite fails for another cause. `NotADesk` if the tables
-    /// aren't a desk's, or if their rows aren't those of a valid state in either schema.
+    /// The connection, if there was one, and `OutOfMemory` if memory runs out. `Store` if there is no file or
+    /// an empty one, if the files can't be opened, or if SQLite fails for another cause. `NotADesk` if the
+    /// tables aren't a desk's, or if their rows aren't those of a valid state in either schema.
     pub fn migrate_from(
         rt: &HostRuntime,
         path: &str,
@@ -119,7 +123,7 @@ impl<S: Start> SqliteStore<FileStore<FileFrom<S>>> {
 }
 
 impl SqliteStore<FileStore<FileFrom<Unknown>>> {
-    /// As `open_from`, over files of which nothing is known. It is assumed that a torn write leaves each byte
+    /// As `open_from`, over files of which contracts know nothing. A torn write is assumed to leave each byte
     /// old or new.
     ///
     /// # Errors
@@ -138,7 +142,7 @@ impl SqliteStore<FileStore<FileFrom<Unknown>>> {
         SqliteStore::open_from(rt, path, Unknown)
     }
 
-    /// As `migrate_from`, over files of which nothing is known. It is assumed that a torn write leaves each
+    /// As `migrate_from`, over files of which contracts know nothing. A torn write is assumed to leave each
     /// byte old or new.
     ///
     /// # Errors
@@ -159,14 +163,14 @@ impl SqliteStore<FileStore<FileFrom<Unknown>>> {
     }
 }
 
-/// The statistics of the database in the files at `path`, with the connection that read it; `start` says what
-/// the files held. No table or row is changed. A WAL is made if there is none.
+/// The statistics of the database in the files at `path`, with the connection that read it. `start` stands
+/// for what the files held. No table or row is changed. A WAL is made if there is none.
 ///
 /// # Errors
 ///
-/// The connection, if there was one, and `OutOfMemory` if memory runs out. `Store` if there is no file, if
-/// the files can't be opened, or if SQLite fails for another cause. `NotADesk` if there is no table, if the
-/// tables aren't a desk's, or if the rows aren't those of a valid state in either schema.
+/// The connection, if there was one, and `OutOfMemory` if memory runs out. `Store` if there is no file or an
+/// empty one, if the files can't be opened, or if SQLite fails for another cause. `NotADesk` if there is no
+/// table, if the tables aren't a desk's, or if the rows aren't those of a valid state in either schema.
 pub fn look_at<S: Start>(
     rt: &HostRuntime,
     path: &str,
@@ -181,14 +185,14 @@ pub fn look_at<S: Start>(
 }
 
 /// Copies the state of the database in the files at `path` into new files at `to`; returns the connection to
-/// the first, the store over the new ones, and its statistics. `start` says what the first files held, and
-/// `other` what the new ones held.
-/// In the first, no table or row is changed. If it fails, the new files may have a part of the copy.
+/// the first, the store over the new ones, and the statistics of the state. In the first files no table or
+/// row is changed. `start` stands for what the first files held, and `other` for what the new ones held.
 ///
 /// # Errors
 ///
-/// Those of `look_at`. For the new files `OutOfMemory` if memory runs out, and `Store` if there is a file at
-/// `to`, if they can't be opened, if they have a table, or if SQLite fails.
+/// `Unread`, with the errors of `look_at`, if the first files aren't read. `Unmade` if there is no copy: with
+/// `OutOfMemory` if memory runs out, and with `Store` if there is a file at `to`, if the new files can't be
+/// opened, if they have a table, or if SQLite fails. The new files may have a part of the copy then.
 pub fn copy_from<S: Start, N: Start>(
     rt: &HostRuntime,
     path: &str,
@@ -208,7 +212,8 @@ pub fn copy_from<S: Start, N: Start>(
     }
 }
 
-// Makes the store with the state that was read, `found`, in new files at `to`; `other` says what they held.
+// Makes the store with the state that was read, `found`, in new files at `to`; returns what `copy_from` does.
+// `other` stands for what the new files held. Its error is `Unmade`, with the connection of `found`.
 fn copy_read<D: Disk + Drop, N: Start>(
     rt: &HostRuntime,
     found: ReadFiles<FileStore<D>>,
@@ -233,8 +238,8 @@ fn copy_read<D: Disk + Drop, N: Start>(
     }
 }
 
-// Reads the state of the database in the files at `path`; returns it with the connection. `start` says what
-// the files held.
+// Reads the state of the database in the files at `path`; returns it with the connection. `start` stands for
+// what the files held. It fails as `look_at` does.
 fn read_at<S: Start>(
     rt: &HostRuntime,
     path: &str,
@@ -255,7 +260,8 @@ fn read_at<S: Start>(
     }
 }
 
-// Reads the state of the database that `connection` has open; returns it with the connection.
+// Reads the state of the database that `connection` has open; returns it with the connection, which also
+// comes with an error. It changes nothing.
 fn read_connected<D: Disk + Drop>(
     alloc: Global,
     mut connection: Connection<FileStore<D>>,
@@ -278,8 +284,9 @@ fn read_connected<D: Disk + Drop>(
     }
 }
 
-// Makes a store with the state `content`, whose indexes in memory are `known`, in new files at `path`.
-// `start` says what they held.
+// Makes a store with the state `content` in new files at `path`; `known` are the indexes in memory of this
+// state. `start` stands for what the files held. `Store` if there is a file at `path`, if the files have a
+// table, or if SQLite fails; `OutOfMemory` if memory runs out.
 fn store_at<S: Start>(
     rt: &HostRuntime,
     path: &str,
@@ -304,8 +311,8 @@ fn store_at<S: Start>(
     }
 }
 
-// Makes a store with the state `content`, whose indexes in memory are `known`, in the new files that
-// `connection` has open.
+// Makes a store with the state `content` in the new files that `connection` has open; `known` are the indexes
+// in memory of this state. It fails as `store_of` does.
 fn store_files<D: Disk + Drop>(
     alloc: Global,
     connection: Connection<FileStore<D>>,
@@ -332,8 +339,7 @@ fn store_files<D: Disk + Drop>(
     }
 }
 
-// As `adopt`, over a connection to files on any disk. Since the disk is a type parameter, this is proved once
-// and used at little cost for each disk.
+// As `adopt`, over a connection to files on a disk of any type: so it is proved once for all of them.
 fn adopt_files<D: Disk + Drop>(
     alloc: Global,
     connection: Connection<FileStore<D>>,
@@ -358,7 +364,7 @@ fn adopt_files<D: Disk + Drop>(
     }
 }
 
-// As `adopt_old`, over a connection to files on any disk.
+// As `adopt_old`, over a connection to files on a disk of any type.
 fn adopt_old_files<D: Disk + Drop>(
     alloc: Global,
     connection: Connection<FileStore<D>>,

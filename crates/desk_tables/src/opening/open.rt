@@ -1,4 +1,7 @@
-//! Opens stores of plans over connections.
+//! Opens stores of plans over connections. A state has the operators with their ceilings, and all plans; it
+//! is valid if it keeps the desk's limits. Rows of schema 1, the older one, are in `volume` and `span`. A
+//! packed file has all tables before the indexes, as after a VACUUM; canonical order is the one in which a
+//! desk makes them.
 
 ghost use Rattle.std.specs.Prelude.{◌≡◌, ◌-◌, ◌++◌, [], false, length, replicate, IfOk, IfErr, MatchResult, None};
 ghost use Rattle.desk_sql.specs.Effects.{StaysShown};
@@ -61,9 +64,9 @@ impl SqliteStore<FileStore<Ram>> {
 
 impl<S: Alter> SqliteStore<S> {
     /// Opens the store over a connection. Missing tables are made; those of a packed file are rebuilt in
-    /// canonical order, in one transaction. The store has the state whose rows the tables have, which is
-    /// empty if there was no table. This holds as long as the disk returns what was written. A step limit of
-    /// the connection is lifted.
+    /// canonical order, in one transaction. If the disk returns what was written, the store has the state
+    /// whose rows the tables have, which is empty if there was no table. A step limit of the connection (on
+    /// the rows that a statement visits) is lifted.
     ///
     /// # Errors
     ///
@@ -88,6 +91,7 @@ impl<S: Alter> SqliteStore<S> {
             (λ store. LeavesShownOr S.Store connection store.held IsCompletedAs)
             (λ refused. LeavesShownOr S.Store connection refused.connection IsCompletedAs) }
     {
+        // A law, which changes nothing: what the connection shows is committed and sound.
         committed_and_sound(&connection);
         connection.set_step_limit(None);
         match load_world(alloc, &mut connection) {
@@ -130,6 +134,7 @@ impl<S: Alter> SqliteStore<S> {
             (λ moved. LeavesShownOr S.Store connection moved.0.held IsMovedOn)
             (λ refused. LeavesShownOr S.Store connection refused.connection IsMovedOn) }
     {
+        // A law, which changes nothing: what the connection shows is committed and sound.
         committed_and_sound(&connection);
         connection.set_step_limit(None);
         match load_or_migrate(alloc, &mut connection) {
@@ -149,7 +154,8 @@ impl<S: Alter> SqliteStore<S> {
     }
 }
 
-// A store over files in memory, without operators and plans.
+// A store over files in memory, without operators and plans. Its caller reports each error as `OutOfMemory`:
+// files in memory fail for no other cause.
 fn store_in_ram(alloc: Global) -> Result<SqliteStore<FileStore<Ram>>, OpenFault>
     ensures { IfOk result (λ store. store.world ≡ record { operators = []; plans = [] }) }
 {
@@ -168,7 +174,7 @@ fn store_in_ram(alloc: Global) -> Result<SqliteStore<FileStore<Ram>>, OpenFault>
     }
 }
 
-// The bytes of a database without tables: `BLANK`, and zeros up to one page.
+// The bytes of a database without tables: `BLANK`, and zeros up to one page (`PAGE` bytes).
 fn blank_database(alloc: Global) -> Result<Vec<u8>, AllocError>
     ensures { IfOk result (λ page. page.items ≡ BLANK ++ replicate (PAGE - length BLANK) 0) }
 {
@@ -177,7 +183,8 @@ fn blank_database(alloc: Global) -> Result<Vec<u8>, AllocError>
     Ok(page)
 }
 
-// Makes an empty store over a connection to a database in memory; `Store` if this has a table.
+// Makes an empty store over a connection to a database in memory that has to have no table; `Store` if it has
+// one. I/O errors of this store are reported as `OutOfMemory`: files in memory fail for no other cause.
 fn store_over_blank<S: Alter + Drop>(
     alloc: Global,
     mut connection: Connection<S>,

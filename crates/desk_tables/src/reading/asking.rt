@@ -1,5 +1,6 @@
 //! The slabs of other plans that overlap an extent, read by one query for each range of leaves at which they
-//! may begin.
+//! may begin. A slab is one range of leaves (S2 cells of level 30, by their positions along the curve), with
+//! one range of altitudes and one of times. An extent is a slab of which is asked what plans hold in it.
 
 ghost use Rattle.std.specs.Prelude.{◌<◌, IfSome, IsTrue, OnOk, length};
 ghost use Rattle.std.specs.List.{AllByRecursion};
@@ -22,7 +23,8 @@ use volume4d::{Held, Slab};
 
 impl<S: Alter> DeskTables<S> {
     /// Reads slabs that have, at each point of `extent`, the greatest priority of the live plans there that
-    /// `wanted` selects. `span_bounds` say at which leaves their spans may begin: only such rows are read.
+    /// `wanted` selects. Outside `extent` the slabs mean nothing. `span_bounds` say at which leaves the spans
+    /// of these plans may begin: only rows that begin there are read.
     ///
     /// # Errors
     ///
@@ -44,7 +46,8 @@ impl<S: Alter> DeskTables<S> {
         self.query_all(wanted, extent, &queries)
     }
 
-    // Runs `query_one` for each range of leaves in `queries`; returns the slabs that they find, in this order.
+    // Runs `query_one` for each range of leaves in `queries`; returns the slabs that they find, in this
+    // order.
     #[tactic(auto, using(table_load::proofs::lemmas::Frame::reads_then))]
     fn query_all(
         &mut self,
@@ -67,7 +70,7 @@ impl<S: Alter> DeskTables<S> {
         Ok(helds)
     }
 
-    // Runs one query: it finds the slabs, of the plans that `wanted` selects, that begin at a leaf of the range
+    // Runs one query for slabs of the plans that `wanted` selects: those that begin at a leaf of the range
     // `query` and overlap `extent`.
     fn query_one(
         &mut self,
@@ -113,8 +116,8 @@ impl<S: Alter> DeskTables<S> {
     }
 }
 
-// States for contracts that the id of the plan which `wanted` leaves out, if there is one, is valid. It
-// changes nothing.
+// States, for contracts alone, that the id of the plan which `wanted` leaves out, if there is one, is valid.
+// It changes nothing: `encode` is called for its contract.
 fn id_is_valid(wanted: &Wanted)
     ensures { IfSome wanted.now.id IsId }
 {

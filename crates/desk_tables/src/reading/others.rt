@@ -1,4 +1,6 @@
-//! The slabs of other operators' plans.
+//! The slabs of other operators' plans. A slab is one range of leaves (S2 cells of level 30, by their
+//! positions along the curve), with one range of altitudes and one of times. An extent is a slab of which is
+//! asked what plans hold in it.
 
 ghost use Rattle.std.specs.Prelude.{◌≡◌, None, cond};
 ghost use Rattle.volume4d.specs.{Volume.Point, Slab.slabs_have, Slab.top_held};
@@ -18,8 +20,9 @@ use volume4d::{Held, Slab};
 
 impl<S: Alter> DeskTables<S> {
     /// Reads slabs that have, at each point of `extents`, the greatest priority of live plans of other
-    /// operators there. If volumes of few plans overlap `extents`, only these plans' rows are read; else the
-    /// rows near such volumes, none twice.
+    /// operators there. Outside `extents` the slabs mean nothing. The index `known.live` finds the plans with
+    /// a volume near `extents`: if reading them costs few rows (`max_rows`), only their rows are read; else
+    /// all rows in regions of `extents` that have such a volume near.
     ///
     /// # Errors
     ///
@@ -52,7 +55,8 @@ impl<S: Alter> DeskTables<S> {
         self.held_in_regions(operator, &regions, &known.span_bounds)
     }
 
-    // Reads the slabs of other operators' live plans, clipped to `regions`.
+    // Reads slabs that have, at each point of `regions`, the greatest priority of other operators' live plans
+    // there, and no point outside `regions`.
     #[tactic(auto, using(table_load::proofs::lemmas::Frame::reads_then))]
     fn held_in_regions(
         &mut self,

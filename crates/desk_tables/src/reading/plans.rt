@@ -1,4 +1,6 @@
-//! The slabs of a few plans, whose spans are looked up by their keys.
+//! The slabs of a few plans, whose spans are looked up by their keys. A slab is one range of leaves (S2 cells
+//! of level 30, by their positions along the curve), with one range of altitudes and one of times. An extent
+//! is a slab of which is asked what plans hold in it.
 
 ghost use Rattle.std.specs.Prelude.{◌≡◌, ◌+◌, ◌-◌, ◌^◌, min, nat_le, true, if◌then◌else◌};
 ghost use Rattle.volume4d.specs.{Volume.Point, Slab.slabs_have, Slab.top_held};
@@ -35,8 +37,8 @@ const MAX_SHORT: u64 = 1 << 46;
 const MAX_ROWS_BESIDE_SHORT: usize = 1 << 12;
 
 impl<S: Alter> DeskTables<S> {
-    /// Reads slabs that have, at each point of `extents`, the greatest priority of those plans of `keys` that
-    /// are live. Only these plans' rows are read.
+    /// Reads slabs that have, at each point of `extents`, the greatest priority that live plans with the keys
+    /// `keys` hold there. Outside `extents` the slabs mean nothing. Only these plans' rows are read.
     ///
     /// # Errors
     ///
@@ -58,8 +60,9 @@ impl<S: Alter> DeskTables<S> {
         self.held_by_plans(keys, 0, &enclosing_slab(first, others))
     }
 
-    /// Reads slabs that have, at each point of `extent`, the greatest priority of those plans of `keys` that
-    /// are live, if it is at least `least`. Only these plans' rows are read.
+    /// Reads slabs that have, at each point of `extent`, the greatest priority that live plans with the keys
+    /// `keys` hold there, if that is at least `least`. Outside `extent` the slabs mean nothing. Only these
+    /// plans' rows are read.
     ///
     /// # Errors
     ///
@@ -83,7 +86,8 @@ impl<S: Alter> DeskTables<S> {
         Ok(helds)
     }
 
-    // Reads the slabs of the plan `key` that overlap `extent`, if its priority is at least `least`.
+    // Reads the slabs of the plan with the key `key` that overlap `extent`, if its priority is at least
+    // `least`.
     fn held_by_plan(
         &mut self,
         key: &PlanKey,
@@ -111,8 +115,8 @@ impl<S: Alter> DeskTables<S> {
     }
 }
 
-/// How many rows are read by the keys of plans at most. If there are more, `queries` are run instead. This only
-/// matters for speed.
+/// The most rows that are read by the keys of plans; if there were more, `queries` are run instead. It is
+/// lower if the ranges of `queries` are short, since these read few rows then. This only matters for speed.
 pub(crate) fn max_rows_beside(queries: &[Span]) -> usize
     ensures { result ≡ (if nat_le (query_leaf_count queries.now) MAX_SHORT then MAX_ROWS_BESIDE_SHORT
         else MAX_ROWS) }
@@ -135,7 +139,7 @@ fn count_leaves(queries: &[Span]) -> u64
     leaves
 }
 
-// The sum of `leaves` and the number of leaves in the range `query`; it saturates.
+// The sum of `leaves` and the number of leaves in the range `query`, whose ends are included; it saturates.
 fn add_leaves(leaves: u64, query: &Span) -> u64
     ensures { result ≡ min (leaves + (query.now.last - query.now.first + 1)) (2 ^ 64 - 1) }
 {

@@ -1,4 +1,6 @@
-//! What a store reads from its tables.
+//! What a store reads from its tables. Columns of rows are counted from 0. A slab is one range of leaves (S2
+//! cells of level 30, by their positions along the curve), with one range of altitudes and one of times. An
+//! extent is a slab of which is asked what plans hold in it.
 
 ghost use Rattle.std.specs.Prelude.{◌≡◌, ◌≢◌, ◌<◌, ◌^◌, List, IfErr, IfOk, IsOk, OnOk, map};
 ghost use Rattle.std.specs.{List.AllByRecursion, List.AllZip, Result.IsErrAnd};
@@ -45,7 +47,8 @@ impl<S: Alter> DeskTables<S> {
         or_fault(answer, self.reported)
     }
 
-    // The rows of `volume2` of the operator's plan `id`, ordered by place; no row if the plan isn't stored.
+    // The rows of `volume2` for the operator's plan `id`, ordered by place (column 2); no row if the plan
+    // isn't stored.
     fn volumes(&mut self, operator: &Operator, id: &PlanId) -> Result<Vec<Row>, StoreFault>
         ensures { ReadsPlans S.Store self.old self.new result (λ rows. IsContent self.old.world
             × (rows.items ≡ volume_rows (own_of operator.now id.now self.old.world))) }
@@ -56,7 +59,7 @@ impl<S: Alter> DeskTables<S> {
         or_fault(answer, self.reported)
     }
 
-    /// The operator's plan `id`, or none if it isn't stored.
+    /// The operator's plan `id`, or `None` if it isn't stored.
     ///
     /// # Errors
     ///
@@ -95,8 +98,9 @@ impl<S: Alter> DeskTables<S> {
     }
 
     /// Reads slabs that have, at each point of `extents`, the greatest priority of the live plans there that
-    /// `wanted` selects. The index in memory, `known`, says whose volumes overlap `extents`: if these are few
-    /// plans, only their rows are read; else all rows near `extents`.
+    /// `wanted` selects. Outside `extents` the slabs mean nothing. The index `known.live` finds the plans
+    /// with a volume near `extents`: if reading them costs few rows (`max_rows`), only their rows are read;
+    /// else all rows near the one slab around all `extents`.
     ///
     /// # Errors
     ///
@@ -129,9 +133,8 @@ impl<S: Alter> DeskTables<S> {
     }
 }
 
-// The plan whose row of `plan` is `head` and whose rows of `volume2` are `rows`: their volumes are in the
-// columns from index 3, `lower`, on. `Store` only if they are not those of a valid plan; `OutOfMemory` if
-// memory runs out.
+// The plan whose row of `plan` is `head`, and whose rows of `volume2` are `rows`, in which a volume begins at
+// column 3 (`lower`). `Store` if they aren't those of a valid plan; `OutOfMemory` if memory runs out.
 fn plan_of_rows(alloc: Global, head: &Row, rows: &[Row]) -> Result<PlanRow, StoreFault>
     ensures value { IfOk result (λ plan. (p : Plan) → IsId p.id → IsHead head.now p
         → AllByRecursion IsValidVolume p.area → AllZip (λ row v. IsVolumeAt row 3 v) rows.now p.area
@@ -144,8 +147,9 @@ fn plan_of_rows(alloc: Global, head: &Row, rows: &[Row]) -> Result<PlanRow, Stor
     plan_in(head, area)
 }
 
-// The plans that `collector` has, if the query passed all rows to it: `taken` is what the query returned.
-// Else the fault for its error, an I/O error as `reported`.
+// The plans that `collector` has, if the query passed all rows to it: `taken` is what the query returned. If
+// it failed, the fault for its error, with an I/O error as `reported`. `Store` also if the last plan has no
+// volumes, or more than 32.
 fn plans_if_read(
     taken: Result<(), Error>,
     collector: PlanCollector,
@@ -166,8 +170,8 @@ fn plans_if_read(
     }
 }
 
-// The slabs that `rivals` has, if the query passed all rows to it: `queried` is what the query returned. Else
-// the fault for its error, an I/O error as `reported`.
+/// The slabs that `rivals` has, if the query passed all rows to it: `queried` is what the query returned. If
+/// it failed, the fault for its error, with an I/O error as `reported`.
 pub(crate) fn slabs_if_read(
     queried: Result<(), Error>,
     rivals: SpanCollector,
