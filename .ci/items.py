@@ -31,6 +31,7 @@ RUST_START = re.compile(
     r"|extern\b|[a-z_]+!)"
 )
 CLAUSE = re.compile(r"\b(?:ensures|requires)\b")
+BRACKET = re.compile(r"[][(){}]")
 IMPORT = re.compile(r"\buse\s+([^;{]*?)(?:::|\.)?(?:\{([^}]*)\}|(\*)|)(?:\s+as\s+(\w+))?\s*(?:;|$)", re.MULTILINE)
 # What isn't followed, and so may not stand in a source: imports within imports, and names that are opened.
 UNFOLLOWED = re.compile(r"\buse\s[^;{}]*\{[^;}]*\{|^ *open ", re.MULTILINE)
@@ -89,12 +90,12 @@ def spread(text: str) -> str:
 
 
 def end_of_block(bare: str, start: int) -> int:
-    """Where the block ends that begins with the brace at this place."""
+    """Where the block ends that begins with the bracket at this place."""
     depth = 0
-    for found in re.finditer(r"[{}]", bare[start:]):
-        depth += 1 if found[0] == "{" else -1
+    for found in BRACKET.finditer(bare, start):
+        depth += 1 if found[0] in "([{" else -1
         if depth == 0:
-            return start + found.end()
+            return found.end()
     return len(bare)
 
 
