@@ -32,7 +32,8 @@ fn write_digits(out: &mut Vec<u8>, width: u32, number: u64) -> Result<(), AllocE
     Ok(())
 }
 
-/// Parses decimal digits; an empty `text` is 0. `None` if a byte isn't a digit or the number is 2^64 or more.
+/// Parses decimal digits, and returns their number. Leading zeros are allowed, and an empty `text` is 0.
+/// `None` if a byte isn't an ASCII digit, so also for a sign or a space, or if the number is 2^64 or more.
 pub fn parse_number(text: &[u8]) -> Option<u64>
     ensures { result ≡ number_from 0 text.now }
 {

@@ -4,7 +4,8 @@ use Rattle.desk_rules.specs.{Limits.is_permitted, declared.terms.Terms.Terms}
 use Rattle.desk_record.specs.{Record.EntryParts, Record.entries, Record.entry, declared.kind.Kind.Kind}
 use Rattle.desk_record.specs.declared.kind.Kind.TheVariants as kind
 use Rattle.desk_replay.specs.Replaying.{version}
-use Rattle.desk_cli.specs.declared.line.Enrolment.{Enrolment}
+use Rattle.desk_cli.specs.declared.{line.Enrolment.Enrolment, failure.ErrorCode.ErrorCode}
+use Rattle.desk_cli.specs.declared.failure.ErrorCode.TheVariants as failure
 use Rattle.desk_program.specs.Enrolling.{Noted, answer_entry, operator_entry, request_entry}
 use Rattle.desk_recording.specs.declared.journal.{AppendError.AppendError, AppendError.TheVariants.Journal, AppendError.TheVariants.OutOfMemory}
 
@@ -36,6 +37,11 @@ MakesWrite old new false write = FollowsWrites old new (Failed ∷ [])
 abbrev pub IsJournalFault : {F : Type 0} → AppendError F → Type 0
 IsJournalFault OutOfMemory = ⊥
 IsJournalFault (Journal fault) = ⊤
+
+-- the error code of a command that can't write its journal: `Memory`, or `Write` if the file failed
+abbrev pub append_failure : {F : Type 0} → AppendError F → ErrorCode
+append_failure OutOfMemory = failure.Memory
+append_failure (Journal fault) = failure.Write
 
 -- the writes of an entry that is appended and flushed
 abbrev pub synced_writes : EntryParts → List Write

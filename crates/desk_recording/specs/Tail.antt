@@ -6,7 +6,8 @@ use Rattle.desk_cli.specs.declared.line.Enrolment.{Enrolment}
 use Rattle.desk_record.specs.{Record.EntryParts, Record.Fits, Record.entries, Record.entry, Record.IsDamagedRecord, Record.IsTooShort, declared.kind.Kind.Kind}
 use Rattle.desk_record.specs.declared.kind.Kind.TheVariants as kind
 use Rattle.desk_replay.specs.Replaying.{is_failure, last_moment, version}
-use Rattle.desk_recording.specs.declared.tail.{Tail.Tail, PendingRequest.PendingRequest, TailEnd.TailEnd, TailEnd.TheVariants.End, TailEnd.TheVariants.Short, TailEnd.TheVariants.Damaged, TailFault.TailFault, TailFault.TheVariants.Read, TailFault.TheVariants.OutOfMemory, TailFault.TheVariants.NoRecord}
+use Rattle.desk_recording.specs.declared.tail.{Tail.Tail, PendingRequest.PendingRequest, TailEnd.TailEnd, TailEnd.TheVariants.End, TailEnd.TheVariants.Short, TailEnd.TheVariants.Damaged, EntryFault.EntryFault, TailFault.TailFault, TailFault.TheVariants.Unread, TailFault.TheVariants.OutOfMemory, TailFault.TheVariants.NoRecord, TailFault.TheVariants.Endless}
+use Rattle.desk_recording.specs.declared.tail.EntryFault.TheVariants as unapplied
 
 -- a request that has no answer, or a 500
 pub record UnansweredParts : Type 0 where
@@ -23,15 +24,16 @@ pub record TailParts : Type 0 where
   pub asked : Option UnansweredParts
   pub size : ℕ
 
--- the parts of the program's value
+-- a pending request of the program, in parts
 abbrev pub unanswered_shown : PendingRequest → UnansweredParts
 unanswered_shown u = record { second = u.second; request = u.request.items }
 
+-- a pending request of the program, in parts, if there is one
 abbrev pub unanswered_in : Option PendingRequest → Option UnansweredParts
 unanswered_in None = None
 unanswered_in (Some u) = Some (unanswered_shown u)
 
--- the parts of the program's value
+-- what a `Tail` of the program says, in parts
 abbrev pub tail_shown : Tail → TailParts
 tail_shown t = record {
   record_number = t.record;
@@ -57,11 +59,11 @@ empty_tail = record {
 abbrev pub NextTail : Type 0
 NextTail = Option TailParts
 
--- none if the test holds
+-- None if the test holds; else `next`
 abbrev pub none_if : Bool → NextTail → NextTail
 none_if test next = if test then None else next
 
--- with the header: it is the first entry, and has the version of the format
+-- what the entries say with the header; None if it isn't the first entry or is of another version
 unfoldable pub tail_with_header : TailParts → ℕ → List ℕ → NextTail
 tail_with_header t n bytes =
     none_if (is_some t.record_number || not (bytes_eq bytes version))
@@ -73,25 +75,25 @@ tail_with_permitted_list t more (Err fault) = None
 tail_with_permitted_list t more (Ok permitted) =
     Some (record t { permitted = more; terms = record t.terms { permitted = permitted } })
 
--- with one more permitted priority
+-- what the entries say with one more permitted priority; None if it isn't valid there
 unfoldable pub tail_with_permitted : TailParts → ℕ → NextTail
 tail_with_permitted t p =
     none_if (nat_lt max_priority p)
     (tail_with_permitted_list t (t.permitted ++ (p ∷ [])) (permitted_in (t.permitted ++ (p ∷ []))))
 
--- with a limit on spans
+-- what the entries say with this limit on spans; None if it is 0 or too great
 unfoldable pub tail_with_spans : TailParts → ℕ → NextTail
 tail_with_spans t n =
     none_if (not (nat_le 1 n && nat_le n max_spans))
     (Some (record t { terms = record t.terms { spans = Some n } }))
 
--- with a limit on cells
+-- what the entries say with this limit on cells; None if it is 0 or too great
 unfoldable pub tail_with_cells : TailParts → ℕ → NextTail
 tail_with_cells t n =
     none_if (not (nat_le 1 n && nat_le n max_total_cells))
     (Some (record t { terms = record t.terms { cells = Some n } }))
 
--- with one more operator
+-- what the entries say with one more operator; None if its name or its ceiling isn't valid
 unfoldable pub tail_with_operator : TailParts → ℕ → List ℕ → NextTail
 tail_with_operator t ceiling name =
     none_if (not (is_operator_name name)) (none_if (nat_lt max_priority ceiling)
@@ -119,7 +121,7 @@ tail_with_answer_to t (Some u) second answer =
 unfoldable pub tail_with_answer : TailParts → ℕ → List ℕ → NextTail
 tail_with_answer t second answer = tail_with_answer_to t t.asked second answer
 
--- none if the entry has bytes of its own
+-- None if the entry has bytes of its own; else `next`
 abbrev pub tail_if_bare : List ℕ → NextTail → NextTail
 tail_if_bare bytes next = none_if (not (length bytes == 0)) next
 
@@ -160,9 +162,15 @@ tail_with_all t (e ∷ es) = option_and_then (λ u. tail_with_all u es) (tail_wi
 
 -- the result of applying an entry: what the entries say is `new` now; or memory ran out; or no desk writes
 -- that entry there
-abbrev pub Notes : Result ⊤ TailFault → NextTail → TailParts → Type 0
+abbrev pub Notes : Result ⊤ EntryFault → NextTail → TailParts → Type 0
 Notes (Ok done) outcome new = outcome ≡ Some new
-Notes (Err fault) outcome new = (fault ≡ OutOfMemory) ⊎ ((fault ≡ NoRecord) × (outcome ≡ None))
+Notes (Err fault) outcome new =
+    (fault ≡ unapplied.OutOfMemory) ⊎ ((fault ≡ unapplied.NoRecord) × (outcome ≡ None))
+
+-- why the end of a journal can't be read, by why one of its entries wasn't applied
+abbrev pub tail_fault_of : {R : Type 0} → EntryFault → TailFault R
+tail_fault_of unapplied.OutOfMemory = OutOfMemory
+tail_fault_of unapplied.NoRecord = NoRecord
 
 -- what follows the last whole entry: nothing; a truncated entry; or something else
 abbrev pub EndsIn : TailEnd → Option (List ℕ) → Type 0
@@ -205,17 +213,27 @@ pub record IsNoRecord (old : Option (List ℕ)) : Type 0 where
   pub first : AreApplied old mid t
   pub unsaid : IsNotApplied mid new t
 
--- why no tail is returned: a read failed; memory ran out; or there is an entry that no desk writes there
-abbrev pub HasNoTail : Option (List ℕ) → TailFault → Type 0
-HasNoTail old Read = ⊤
+-- whole entries were read that have 2^64 - 1 bytes or more, which is what their count then says
+pub record IsEndless (old : Option (List ℕ)) : Type 0 where
+  pub mid : Option (List ℕ)
+  pub t : TailParts
+  pub first : AreApplied old mid t
+  pub full : t.size ≡ 2 ^ 64 - 1
+
+-- why no tail is returned: a read failed; memory ran out; there is an entry that no desk writes there; or
+-- there are too many to count their bytes
+abbrev pub HasNoTail : {R : Type 0} → Option (List ℕ) → TailFault R → Type 0
+HasNoTail old (Unread error) = ⊤
 HasNoTail old OutOfMemory = ⊤
 HasNoTail old NoRecord = IsNoRecord old
+HasNoTail old Endless = IsEndless old
 
 -- the result of reading the next entry: it is applied; or this follows the last whole entry; or an error
-abbrev pub StepsTail :
-    Result (Option TailEnd) TailFault → Option (List ℕ) → Option (List ℕ) → TailParts → TailParts → Type 0
+abbrev pub StepsTail : {R : Type 0} → Result (Option TailEnd) (TailFault R) → Option (List ℕ)
+    → Option (List ℕ) → TailParts → TailParts → Type 0
 StepsTail (Ok None) old new s t = IsApplied old new s t
 StepsTail (Ok (Some ended)) old new s t = EndsIn ended old × (t ≡ s)
-StepsTail (Err Read) old new s t = ⊤
+StepsTail (Err (Unread error)) old new s t = ⊤
 StepsTail (Err OutOfMemory) old new s t = ⊤
 StepsTail (Err NoRecord) old new s t = IsNotApplied old new s
+StepsTail (Err Endless) old new s t = ⊥

@@ -23,8 +23,8 @@ const VERSION: &[u8] = b"1";
 ///
 /// # Errors
 ///
-/// `OutOfMemory` if memory runs out: nothing is written. `Journal` if the file fails: a part of the entries
-/// may be in it.
+/// `OutOfMemory` if memory runs out: nothing is written. `Journal` if the file fails: some of the entries, or
+/// all, may be in it.
 pub fn write_header<J: Journal>(
     alloc: Global,
     journal: &mut J,

@@ -219,8 +219,8 @@ fn next_request<R: Read, W>(
 
 /// Carries out the command `play` with a journal at the desk `opened`: each request that comes from `port` is
 /// recorded before it is carried out, and its answer before it is written. Returns the exit report and the
-/// desk, if there is one. If no desk was opened, only that error code is reported. An error code goes to
-/// `errors`; a failed write there is ignored.
+/// desk, if there is one. If no desk was opened, no request is taken, and that error code is reported. An
+/// error code goes to `errors`; a failed write there is ignored.
 pub fn play_opened<S, R, W, K, E>(
     alloc: Global,
     play: &PlayArgs,

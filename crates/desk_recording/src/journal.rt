@@ -4,6 +4,7 @@ ghost use Rattle.std.specs.Prelude.{IfErr, List, Option, None};
 ghost use Rattle.std.specs.Result.{is_ok};
 ghost use Rattle.desk_recording.specs.RecordWrites.{Appended, IsJournalFault, MakesWrite, Synced, Write};
 
+use desk_cli::ErrorCode;
 use std::alloc::AllocError;
 
 /// An append-only file.
@@ -49,6 +50,21 @@ impl<F> From<AllocError> for AppendError<F> {
     // A failed allocation means that memory ran out.
     fn from(_error: AllocError) -> AppendError<F> {
         AppendError::OutOfMemory
+    }
+}
+
+impl<F: Drop> From<AppendError<F>> for ErrorCode {
+    ghost use Rattle.std.specs.Prelude.{◌≡◌};
+    ghost use Rattle.desk_recording.specs.RecordWrites.{append_failure};
+
+    ghost from_gives = { λ error failure. failure ≡ append_failure error };
+
+    // The error code of a command that can't write its journal.
+    fn from(error: AppendError<F>) -> ErrorCode {
+        match error {
+            AppendError::OutOfMemory => ErrorCode::Memory,
+            AppendError::Journal(_) => ErrorCode::Write,
+        }
     }
 }
 

@@ -24,5 +24,5 @@ pub use port::RecordedPort;
 pub use record::{Exchange, Record, RecordFault};
 pub use recovering::{RecoveryError, missing_enrolments, recover};
 pub use streams::{BufferedRequest, BufferedResponse};
-pub use tail::{PendingRequest, Tail, TailEnd, TailFault, read_tail};
+pub use tail::{EntryFault, PendingRequest, Tail, TailEnd, TailFault, read_tail};
 pub use written::WrittenRecord;

@@ -37,7 +37,8 @@ pub(crate) enum StopCause<R> {
 }
 
 /// A port over another one. It flushes each request to its journal before the desk reads it, and appends each
-/// answer before it is sent. Once an entry can't be written, it accepts no more connections.
+/// answer before it is sent. Once an entry can't be written or a request gets no whole answer, it accepts no
+/// more connections.
 #[derive(Drop)]
 pub struct RecordedPort<P: Drop, R: Drop> {
     pub(crate) port: P,
@@ -80,8 +81,8 @@ impl<P: Port + Drop, R: Record + Drop> Port for RecordedPort<P, R> {
     }
 
     // Takes the new enrolments of the port below, and writes them to the journal before the desk makes them.
-    // The error is `Broken` if that fails, or if the port accepts no more connections; else that of the port
-    // below.
+    // The error is `Broken` if they can't be written, or the port accepts no more connections; else it is
+    // that of the port below (`port_error`).
     #[tactic(auto, using(crate::proofs::StepLemmas::brings_enrolments))]
     fn newly_enrolled(&mut self, alloc: Global) -> Result<Vec<Enrolment>, ErrorCode>
         ensures small { IfOk result (λ newly_enrolled. AreEnrolments newly_enrolled.items) }
@@ -112,8 +113,10 @@ impl<P: Port + Drop, R: Record + Drop> Port for RecordedPort<P, R> {
     }
 
     // Accepts a connection, reads its request, and writes that to the journal before the desk reads it. If
-    // that write fails, the client gets a 500, and the error is `Broken`, as it is of all later calls. If
-    // memory runs out while the request is read, the client gets nothing, and the error is `Memory`.
+    // the client sends no whole request, the desk reads an empty one, and no entry is written. If the write
+    // fails, the client gets a 500, and the error is `Broken`, as it is of all later calls. If memory runs
+    // out while the request is read, the client gets nothing, and the error is `Memory`. Other errors are
+    // those of the port below.
     // Long: what the port reports, what was read from the client, and when it is broken.
     #[tactic(auto, using(crate::proofs::StepLemmas::takes_one))]
     fn take(
@@ -171,8 +174,8 @@ impl<P: Port + Drop, R: Record + Drop> Port for RecordedPort<P, R> {
 
     // Writes the answer to the journal, sends it to the client, and closes the connection. `outcome` says
     // whether the request was read whole and answered whole. If the answer isn't whole or can't be recorded,
-    // the client gets a 500, the error is `Broken`, and no more connections are accepted. A failed send is
-    // ignored.
+    // the client gets a 500, the error is `Broken`, and no more connections are accepted. Else an error is
+    // that of closing the connection at the port below. A failed send is ignored.
     // Long: what the port reports, what its journal has, when it is broken, and what the client was sent.
     #[tactic(auto, using(crate::proofs::StepLemmas::closes_so, crate::proofs::StepLemmas::is_open))]
     fn close(

@@ -10,14 +10,15 @@ use desk_program::ExchangeEnd;
 use io_ends::Moment;
 use std::marker::PhantomData;
 
-/// A request and its answer on one connection.
+/// How the exchange on one connection ended. Of the request, which was recorded before, it has only what was
+/// left unread.
 #[derive(Clone, Copy)]
 pub struct Exchange<'a> {
     /// The bytes of the request that the desk left unread.
     pub unread: &'a [u8],
-    /// The answer, or the part of it that was made.
+    /// The bytes of the answer, or of the part of it that was made; empty if none was made.
     pub sent: &'a [u8],
-    /// Whether the request was whole, and whether it was answered.
+    /// Whether the request was read to its end, and whether it was answered whole or none came.
     pub outcome: ExchangeEnd,
 }
 
@@ -32,7 +33,7 @@ pub trait Record {
     /// The text of the journal, and the Unix second of the last request in it; `None` if they aren't known.
     ghost noted: { Self → Option Noted } = { λ _. None };
 
-    /// Appends new enrolments, and flushes the journal to the disk.
+    /// Appends new enrolments, and flushes the journal to the disk. If there are none, it may do nothing.
     ///
     /// # Errors
     ///
@@ -56,19 +57,21 @@ pub trait Record {
         ensures noted { NotesOnDisk (noted self.old) (noted self.new) (is_ok result)
             (λ n. with_request n moment.second bytes.now) };
 
-    /// Appends the answer to the last request, `connection.sent`, without flushing it. It is flushed with the
-    /// next request; if a crash loses it before, the next start answers the request again.
+    /// Appends the answer to the last request, `connection.sent`; an empty one appends nothing. It needn't be
+    /// flushed: the next request flushes it. If a crash loses it before, the next start answers the request
+    /// again.
     ///
     /// # Errors
     ///
-    /// What failed. The entry isn't in the text then.
+    /// What failed. The answer doesn't count as appended then.
     fn append_answer(&mut self, connection: Exchange<'_>) -> Result<(), Self::Fault>
         ensures steps { AddsIf (steps self.old) (steps self.new) (is_ok result)
             (Answered (parting_of connection.entry)) }
         ensures noted { Notes (noted self.old) (noted self.new) (is_ok result)
             (λ n. with_answer n connection.entry.sent.now) };
 
-    /// Notes that the answer to the last request could not be appended. The text stays as it is.
+    /// Notes that the answer to the last request is lost: no whole one was made, or it isn't appended. The
+    /// text stays as it is.
     fn note_lost_answer(&mut self, connection: Exchange<'_>)
         ensures steps { AddsStep (steps self.old) (steps self.new) (Lost (parting_of connection.entry)) }
         ensures noted { noted self.new ≡ noted self.old };

@@ -98,6 +98,7 @@ fn is_enrolled(roll: &[Enrolment], operator: &Operator) -> bool
 /// Sets the `terms` (the settings) of the last journal file at the desk, enrols the operators that are
 /// `missing` there, and repeats the request `asked`, if that file has one without an answer, at its own
 /// second. The request is written to the new `journal` before it is carried out, and its answer after that.
+/// What the desk has then is promised if the disk has returned what was written (`IsHonest`).
 ///
 /// # Errors
 ///

@@ -48,8 +48,8 @@ pub struct Replayed<R> {
 
 /// Replays the journal `input` at a desk, entry by entry, up to the first request whose Unix second is
 /// greater than `until`, if that is given, or to the first entry that can't be read or replayed. Returns how
-/// far it came, and why it ended. After `u64::MAX` entries, which no journal has, it ends as if a read had
-/// failed.
+/// far it came, and why it ended: also if the entries that were replayed have 2^64 - 1 bytes or more, which
+/// can't be counted any further (`Endless`).
 pub fn replay<S: PlanStore, R: Read>(
     alloc: Global,
     desk: &mut Desk<S>,
