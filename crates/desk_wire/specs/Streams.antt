@@ -9,7 +9,7 @@ use Rattle.desk_run.specs.{Calls.Leaves, Verdicts.DeskWorld, Verdicts.Parts, Ver
 use Rattle.request_parser.specs.declared.{message.Front.Front, wire_fault.WireFault.WireFault, wire_fault.WireFault.TheVariants.HeadTooLarge}
 use Rattle.request_parser.specs.{Heads.ends_head, Heads.head_len, Heads.least, Messages.FrontParts, Messages.MessageParts, Messages.front_in, Messages.front_shown, Messages.message_in, Messages.Reading, WireLimits.head_room, Requests.asked}
 use Rattle.io_ends.specs.declared.{serving.Served.Served, serving.Served.TheVariants.Answered, serving.Served.TheVariants.End, serving.ServeFault.ServeFault, serving.ServeFault.TheVariants.Read, serving.ServeFault.TheVariants.Write, serving.ServeFault.TheVariants.CutShort, serving.ServeFault.TheVariants.OutOfMemory, writing.PartialWrite.PartialWrite}
-use Rattle.io_ends.specs.Writing.{BreaksOff}
+use Rattle.io_ends.specs.{Writing.BreaksOff, Reading.HaveGivenUp}
 use Rattle.desk_wire.specs.declared.{response.ServerError.ServerError, receive_fault.ReceiveFault.ReceiveFault}
 use Rattle.desk_wire.specs.declared.receive_fault.ReceiveFault.TheVariants as receive_fault
 use Rattle.io_ends.specs.declared.chunks.ChunkError.{ChunkError}
@@ -162,6 +162,16 @@ abbrev pub Stops : {R : Type 0} → Type 0 → ReceiveFault R → Type 0
 Stops cut receive_fault.CutShort = cut
 Stops cut (receive_fault.Unread error) = ⊤
 Stops cut receive_fault.OutOfMemory = ⊤
+
+-- how many reads one request may take
+abbrev pub max_reads : ℕ
+max_reads = 200000
+
+-- reading a request was given up: a read failed, or `limit` reads were made; of the other faults nothing is said
+abbrev pub IsGivenUp : {R : Type 0} → ℕ → ReceiveFault R → Type 0
+IsGivenUp limit receive_fault.CutShort = ⊤
+IsGivenUp limit (receive_fault.Unread error) = HaveGivenUp limit error.reads
+IsGivenUp limit receive_fault.OutOfMemory = ⊤
 
 -- the fault of reading a request of which a chunk was not read
 abbrev pub unread_chunk : {R : Type 0} → ChunkError R → ReceiveFault R

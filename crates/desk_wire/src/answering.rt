@@ -75,6 +75,9 @@ pub fn answer_with_status<S: PlanStore>(
 /// Carries out `request`, which is split into head and body already, at `moment`. If it is a fault, because
 /// it could not be split, the answer says so. Memory for an answer 500 is reserved first.
 ///
+/// `Ok` has the answer, also if the request was refused. If the store failed, or memory ran out after this
+/// reservation, it is the answer 500, and its `error` says why.
+///
 /// # Errors
 ///
 /// `AllocError` if this memory can't be reserved: nothing changed.
@@ -101,6 +104,7 @@ pub fn answer_request<S: PlanStore>(
             made_change: response.made_change,
         }),
         Err(error) => {
+            // This `?` would hand on an `AllocError`. It can't occur: the answer fits the memory reserved.
             room.extend_from_slice(error.answer())?;
             Ok(Answer {
                 status: StatusCode::INTERNAL_SERVER_ERROR.as_u16(),

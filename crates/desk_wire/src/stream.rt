@@ -2,11 +2,12 @@
 
 ghost use Rattle.std.specs.Prelude.{◌≡◌, ◌<◌, ◌+◌, ◌++◌, [], length, take, IfErr, IfOk, IfSome, None};
 ghost use Rattle.std.specs.{Result.is_ok, Io.KnownBytes.Appends, Io.KnownBytes.Consumes, Io.KnownBytes.IsAtEnd};
+ghost use Rattle.io_ends.specs.Reading.{HaveGivenUp};
 ghost use Rattle.request_parser.specs.Messages.{message_read};
 ghost use Rattle.desk_store.specs.Changes.{Remembers, IsHonest};
 ghost use Rattle.desk_run.specs.Verdicts.{world_of};
 ghost use Rattle.desk_wire.specs.{Bytes.HasFailed, Bytes.HasStatus500, Given.IsServedKept};
-ghost use Rattle.desk_wire.specs.Streams.{passage, HasServed, IsTaken, Stops, IsCut, IsFront, byte_list, front_parsed, front_result, size_or_zero, with_body};
+ghost use Rattle.desk_wire.specs.Streams.{passage, HasServed, IsTaken, IsGivenUp, Stops, IsCut, max_reads, IsFront, byte_list, front_parsed, front_result, size_or_zero, with_body};
 
 use crate::answering::answer_request;
 use crate::receive_fault::ReceiveFault;
@@ -63,12 +64,13 @@ pub fn serve_one<S: PlanStore, R: Read, W: Write>(
 ///
 /// # Errors
 ///
-/// Those of `ReceiveFault`.
+/// Those of `ReceiveFault`; `Unread` if a read failed, or after `MAX_READS` reads, which say so.
 pub fn receive_request<R: Read>(alloc: Global, input: &mut R) -> Result<Vec<u8>, ReceiveFault<R>>
     ensures taken { IfOk result (λ request. 0 < length request.items
         → IsTaken (R.remaining input.old) (R.remaining input.new) request.items) }
     ensures end { IfOk result (λ request. request.items ≡ [] → IsAtEnd (R.remaining input.old)) }
     ensures fault { IfErr result (Stops (IfSome (R.remaining input.old) IsCut)) }
+    ensures reads { IfErr result (IsGivenUp max_reads) }
 {
     let mut limit = ReadLimit::total(MAX_READS);
     let mut request = receive_head(alloc, input, &mut limit)?;
@@ -135,6 +137,8 @@ fn receive_head<R: Read>(
     ensures front { IfOk result (λ text. 0 < length text.items → IsFront text.items) }
     ensures end { IfOk result (λ text. text.items ≡ [] → IsAtEnd (R.remaining input.new)) }
     ensures fault { IfErr result (Stops (IfSome (R.remaining input.old) IsCut)) }
+    ensures reads { IfErr result (IsGivenUp limit.old.limit) }
+    ensures limit { limit.new.limit ≡ limit.old.limit }
 {
     let mut text = Vec::new(alloc);
     for _ in 0..HEAD_ROOM {
@@ -161,6 +165,8 @@ fn receive_byte<R: Read>(
     ensures taken { IfOk result (λ byte.
         Consumes (R.remaining input.old) (R.remaining input.new) (byte_list byte)) }
     ensures end { IfOk result (λ byte. byte ≡ None → IsAtEnd (R.remaining input.new)) }
+    ensures reads { IfErr result (λ error. HaveGivenUp limit.old.limit error.reads) }
+    ensures limit { limit.new.limit ≡ limit.old.limit }
 {
     let mut room = [0u8];
     let count = read_within(input, &mut room, limit)?;
@@ -179,6 +185,7 @@ fn receive_body<R: Read>(
         Consumes (R.remaining input.old) (R.remaining input.new) body.items) }
     ensures size { IfOk result (λ body. length body.items ≡ size) }
     ensures fault { IfErr result (Stops (IfSome (R.remaining input.old) (λ rest. length rest < size))) }
+    ensures reads { IfErr result (IsGivenUp limit.old.limit) }
 {
     let body = read_up_to(alloc, input, size, limit)?;
     if (body.len() as u64) < size {

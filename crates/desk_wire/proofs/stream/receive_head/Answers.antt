@@ -29,4 +29,5 @@ loop-preserved g c =
           (rw c.in-Some.is at c.in_ok-byte.ensures.taken));
       count = ap length grown ∙ length-append text (b ∷ []) ∙ ap (λ n. n + 1) c.loop.invariant.count;
       none = subst HasNone (sym grown) (one_more text b c.loop.invariant.none fails);
+      limit = c.receive_byte.ensures.limit ∙ c.loop.invariant.limit;
     }

@@ -10,4 +10,5 @@ invariant-loop g l =
       taken : Consumes (g.R.Read.remaining l.fn.input) (g.R.Read.remaining l.input) l.text.items;
       count : length l.text.items ≡ l.counter;
       none : HasNone l.text.items;
+      limit : l.limit.limit ≡ l.fn.limit.limit;
     }
