@@ -52,8 +52,9 @@ module _ {S : Type 0} {g : Ghosts S} {old new : Parts S} where
   pub ends_memory : (end : Ending) → EndsWith {A = ⊤} (Err Memory) end → HasCause g old new end
   ends_memory end ends = record { done = Err Memory; ends = ends; cause = λ store. cc }
 
-  pub ends_write : (end : Ending) → EndsWith {A = ⊤} (Err failure.Write) end → HasCause g old new end
-  ends_write end ends = record { done = Err failure.Write; ends = ends; cause = λ store. cc }
+  pub ends_write : (f : ErrorCode) (end : Ending) → f ≡ failure.Write → EndsWith {A = ⊤} (Err f) end
+      → HasCause g old new end
+  ends_write f end is ends = record { done = Err f; ends = ends; cause = λ store. cc }
 
 -- connections end with no such failure
 at_no_store : (served : Result Served ServeFault) → failure_at served ≡ Some Store → ⊥

@@ -7,6 +7,7 @@ use Rattle.desk_run.specs.declared.fault.DeskFault.{DeskFault}
 use Rattle.desk_run.specs.Calls.{IsBreakdown as IsDeskBreakdown}
 use Rattle.desk_wire.specs.Streams.{course, passed}
 use Rattle.desk_cli.specs.declared.failure.ErrorCode.{ErrorCode}
+use Rattle.desk_cli.specs.declared.failure.ErrorCode.TheVariants as failure
 use Rattle.desk_cli.specs.declared.line.Enrolment.{Enrolment}
 use Rattle.desk_cli.specs.declared.line.PlayArgs.{PlayArgs}
 use Rattle.desk_cli.specs.Exits.{Ending, EndsWith, FailsWith, IsBrokenDown, IsLineBreakdown, enrolment_failure}
@@ -27,6 +28,11 @@ ends_broken f end (inr store) ends = inr (subst (λ v. FailsWith v end) store en
 pub broken_down : (fault : DeskFault) (f : ErrorCode) (end : Ending) → f ≡ enrolment_failure fault
     → IsDeskBreakdown fault → EndsWith {A = ⊤} (Err f) end → IsBrokenDown end
 broken_down fault f end is down ends = ends_broken f end (reported_breakdown fault f is down) ends
+
+-- a command ends with the error code of a failed write
+pub ends_unwritten : (f : ErrorCode) (end : Ending) → f ≡ failure.Write → EndsWith {A = ⊤} (Err f) end
+    → FailsWith failure.Write end
+ends_unwritten f end is ends = subst (λ v. FailsWith v end) is ends
 
 -- what is found then of an enrolment
 pub found_enrolled : (before : Type 0) (e : Enrolment) (end : Ending) (out : Option (List ℕ)) (w : DeskWorld)

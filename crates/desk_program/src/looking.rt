@@ -87,7 +87,7 @@ pub(crate) fn print_line<W: Write, E: Write>(
     };
     match write_whole(output, text.as_bytes()) {
         Ok(()) => ExitReport::silent(0),
-        Err(_) => report_exit(errors, Err(ErrorCode::Write)),
+        Err(cut) => report_exit(errors, Err(ErrorCode::from(cut))),
     }
 }
 

@@ -78,7 +78,7 @@ pub fn enrol<S: PlanStore, W: Write, E: Write>(
     }
     match write_whole(output, text.as_bytes()) {
         Ok(()) => ExitReport::silent(0),
-        Err(_) => report_exit(errors, Err(ErrorCode::Write)),
+        Err(cut) => report_exit(errors, Err(ErrorCode::from(cut))),
     }
 }
 

@@ -1,7 +1,7 @@
-use Rattle.std.proofs.Common.{◌∙◌, Err, Some, ap, arith, inr, refl, rules}
+use Rattle.std.proofs.Common.{◌∙◌, Err, Some, ap, arith, inl, inr, refl, rules}
 use Rattle.desk_run.specs.Verdicts.{world_of}
 use Rattle.desk_cli.specs.Exits.{ending}
-use Rattle.desk_program.proofs.EndLemmas.{broken_down, found_enrolled}
+use Rattle.desk_program.proofs.EndLemmas.{broken_down, ends_unwritten, found_enrolled}
 use Rattle.desk_program.proofs.CauseLemmas.{ends_counted, ends_memory, ends_well, ends_write}
 use Rattle.desk_program.proofs.program.enrol.Goals as goal
 
@@ -50,3 +50,11 @@ returns-in-Ok-write_whole-clause-cause g c = search (rules, ends_well)
 
 pub returns-clause-cause : goal.returns-clause-cause
 returns-clause-cause g c = search (rules, ends_write)
+
+pub returns-clause-enrolled : goal.returns-clause-enrolled
+returns-clause-enrolled g c = inr (inl (
+  ends_unwritten _ _ c.from-in-Err-write_whole.ensures
+      (c.report_exit-in-Err-write_whole.ensures.status, c.report_exit-in-Err-write_whole.ensures.reported),
+  search rules,
+  search rules,
+))
