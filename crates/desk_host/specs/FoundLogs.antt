@@ -28,6 +28,7 @@ abbrev pub size_of : Result Found ErrorKind → ℕ
 size_of (Ok found) = if found.is_file then found.len else 0
 size_of (Err error) = 0
 
+-- that size, by the answers of the machine
 abbrev pub size_at : Answers → List ℕ → ℕ
 size_at it path = size_of (it.found path)
 
@@ -46,10 +47,11 @@ abbrev pub if_reachable : {T : Type 0} → Result T ErrorKind → Result (Option
 if_reachable (Ok it) = Ok (Some it)
 if_reachable (Err kind) = unreached_by kind
 
--- a WAL of so many bytes is long enough to have a commit, or to be damaged
+-- a WAL of so many bytes is long enough to have a commit
 abbrev pub may_have_commit : ℕ → Bool
 may_have_commit size = nat_le least_with_commit size
 
+-- a WAL of so many bytes is long enough to be damaged
 abbrev pub may_be_damaged : ℕ → Bool
 may_be_damaged size = nat_le least_damaged size
 
@@ -67,15 +69,17 @@ abbrev pub opened_by : List ℕ → Option ErrorKind → Option (List ℕ)
 opened_by path None = Some path
 opened_by path (Some error) = None
 
--- the path of a file's WAL, beside the file to which links lead, if it has to be checked and can be opened
+-- the path of a WAL, if it has to be checked (true) and can be opened
 abbrev pub if_opened : Answers → List ℕ → Bool → Option (List ℕ)
 if_opened it log true = opened_by log (it.unread log)
 if_opened it log false = None
 
+-- that path, by the path of the file and that path with all links resolved; None if it can't be reached
 abbrev pub log_to_check_by : Answers → List ℕ → Result (List ℕ) ErrorKind → Option (List ℕ)
 log_to_check_by it path (Ok real) = if_opened it (log_of real) (needs_check it path real (log_of real))
 log_to_check_by it path (Err error) = None
 
+-- the WAL of the file at a path, if it has to be checked and can be opened
 abbrev pub log_to_check : Answers → List ℕ → Option (List ℕ)
 log_to_check it path = log_to_check_by it path (it.real path)
 
@@ -188,8 +192,7 @@ IsFoundChecked r w copied path found_log.Nothing result before now =
 IsFoundChecked {R} {E} r w copied path (found_log.Log log) result before now =
     IfSome (r.remaining log) (λ bytes. HasLooked E copied path bytes result (bytes_written w before now))
 
--- ==== The steps by which the scratch copy of a file is made and removed
--- It is read in place of the file.
+-- ==== The steps by which the scratch copy of a file, which is read in place of it, is made and removed
 
 -- the path of the scratch copy beside a path
 abbrev pub scratch_of : List ℕ → List ℕ
@@ -200,7 +203,6 @@ pub record AreScratchPaths (path : List ℕ) (scratch : ScratchCopy) : Type 0 wh
   pub path_is : string_bytes scratch.path ≡ scratch_of path
   pub log_is : string_bytes scratch.log ≡ log_of (scratch_of path)
 
--- ---- the steps of a scratch copy
 -- the steps that make a scratch copy of the file `source`: one that an interrupted command left is removed,
 -- then the new one is made, repaired if `mended`
 abbrev pub make_steps : List ℕ → List ℕ → Bool → List Step
@@ -264,6 +266,7 @@ abbrev pub has_changes_by : Answers → List ℕ → Result (List ℕ) ErrorKind
 has_changes_by it path (Ok real) = if has_commit it real then it.recovered path else false
 has_changes_by it path (Err error) = true
 
+-- whether recovery may apply a commit of the WAL of the file at a path
 abbrev pub has_changes : Answers → List ℕ → Bool
 has_changes it path = has_changes_by it path (it.real path)
 

@@ -1,16 +1,17 @@
 -- The file of enrolments, the folder of journals, and what is reported if one of them can't be read.
 use Rattle.std.specs.Prelude.{◌≡◌, ◌⊎◌, ℕ, List, codes, Option, None, Some, ◌≢◌, ◌+◌, ◌-◌, ◌^◌, ◌==◌, ◌&&◌, Bool, true, false, nat_lt, if◌then◌else◌, ◌++◌, length, decimal, drop, position, take, option_and_then, string_bytes, ◌<◌, ◌≤◌, ⊤, [], ◌∷◌, IsSome, Result, Ok, Err, min, nat_le}
-use Rattle.std.specs.declared.{io.ErrorKind.ErrorKind, fs.attrs.Metadata.Metadata}
+use Rattle.std.specs.declared.{io.Error.Error, io.ErrorKind.ErrorKind, fs.attrs.Metadata.Metadata}
 use Rattle.std.specs.declared.io.ErrorKind.TheVariants as kind
 use Rattle.std.specs.{Char.is_ascii_digit, Fmt.format_spec, Fmt.styled_decimal, List.list_all, Str.Parse.digits_value, Option.is_none, Fs.IsFile, Fs.file_type, Fs.metadata_len, Result.IsErrAnd, Str.Lossy.utf8_lossy}
 use Rattle.desk_wire.specs.Streams.{Course, course}
-use Rattle.desk_cli.specs.{Malformed.parse_enrolment_line, Malformed.parse_enrolment_lines, Malformed.lines_of, declared.line.Enrolment.Enrolment}
+use Rattle.desk_cli.specs.{Malformed.parse_enrolment_line, Malformed.parse_enrolment_lines, Malformed.lines_of, declared.line.Enrolment.Enrolment, declared.failure.ErrorCode.ErrorCode}
+use Rattle.desk_cli.specs.declared.failure.ErrorCode.TheVariants as failure
 use Rattle.desk_program.specs.Serving.{Grows}
 use Rattle.host_files.specs.Naming.{IsWrittenIfRoom, line_of}
-use Rattle.desk_host.specs.declared.{folders.JournalError.JournalError, folders.JournalFile.JournalFile, folders.Greatest.Greatest, operators.FileReadError.FileReadError, operators.Stamp.Stamp, operators.FileReadError.TheVariants.Cause, operators.FileReadError.TheVariants.Memory, operators.LineCounts.LineCounts}
+use Rattle.desk_host.specs.declared.{folders.JournalError.JournalError, folders.JournalFile.JournalFile, folders.Greatest.Greatest, journal_file.FileError.FileError, journal_file.LocalJournal.LocalJournal, operators.FileReadError.FileReadError, operators.Stamp.Stamp, operators.FileReadError.TheVariants.Cause, operators.FileReadError.TheVariants.Memory, operators.LineCounts.LineCounts}
 use Rattle.desk_host.specs.declared.folders.JournalError.TheVariants as unkept
 use Rattle.desk_host.specs.declared.operators.FileReadError.TheVariants as unread
-use Rattle.desk_recording.specs.{Tail.HasNoTail, declared.tail.TailFault.TailFault}
+use Rattle.desk_recording.specs.{Tail.HasNoTail, declared.tail.Tail.Tail, declared.tail.TailEnd.TailEnd, declared.tail.TailEnd.TheVariants.End, declared.tail.TailEnd.TheVariants.Short, declared.tail.TailEnd.TheVariants.Damaged, declared.tail.TailFault.TailFault}
 use Rattle.desk_recording.specs.declared.tail.TailFault.TheVariants as tail
 
 -- the text about a file that can't be read; None if memory ran out
@@ -28,9 +29,9 @@ unread_by _ = Some (codes "it can't be read")
 -- the text about a journal that can't be read or written; None if memory ran out
 abbrev pub journal_error_text : JournalError → Option (List ℕ)
 journal_error_text unkept.Memory = None
-journal_error_text (unkept.Cause cause) = Some cause.now
+journal_error_text (unkept.Cause cause) = Some cause.text.now
 
--- that text, by the operating system's kind of error, and by the fault in reading the end of a journal
+-- that text, by the operating system's kind of error
 abbrev pub journal_error_by : ErrorKind → Option (List ℕ)
 journal_error_by kind.OutOfMemory = None
 journal_error_by kind.NotFound = Some (codes "no such folder")
@@ -42,26 +43,100 @@ journal_error_by kind.QuotaExceeded = Some (codes "a full disk")
 journal_error_by kind.AlreadyExists = Some (codes "it is there already")
 journal_error_by _ = Some (codes "it can't be read or written")
 
-abbrev pub tail_error_text : TailFault → Option (List ℕ)
+-- that text, by the fault in reading the end of a journal
+abbrev pub tail_error_text : {R : Type 0} → TailFault R → Option (List ℕ)
 tail_error_text tail.OutOfMemory = None
-tail_error_text tail.Read = Some (codes "its last record can't be read")
+tail_error_text (tail.Unread error) = Some (codes "its last record can't be read")
+tail_error_text tail.Endless = Some (codes "its last record can't be read")
 tail_error_text tail.NoRecord = Some (codes "its last record is none of a desk")
+
+-- the error code of a command that fails for a journal: `Memory`, or `Write` for a cause
+abbrev pub journal_failure : JournalError → ErrorCode
+journal_failure unkept.Memory = failure.Memory
+journal_failure (unkept.Cause cause) = failure.Write
+
+-- the number of a folder's last journal and its size in bytes, each 0 if there is none
+abbrev pub extent_of : Option JournalFile → ℕ × ℕ
+extent_of None = (0, 0)
+extent_of (Some found) = (found.number, found.len)
+
+-- the result of something done in the journal folder, with an error code: `Memory`, or `Write` for a cause
+abbrev pub failure_of : {V : Type 0} → Result V JournalError → Result V ErrorCode
+failure_of (Ok v) = Ok v
+failure_of (Err error) = Err (journal_failure error)
+
+-- the result for a desk in memory, which continues no journal: `Write` if the folder has a last journal
+abbrev pub empty_or_write : Option JournalFile → Result ⊤ ErrorCode
+empty_or_write None = Ok tt
+empty_or_write (Some last) = Err failure.Write
+
+-- the last journal was read: it has still that number and that size, or the error says that it is in use
+abbrev pub IsSameExtent : ℕ × ℕ → ℕ × ℕ → Result ⊤ JournalError → Type 0
+IsSameExtent found extent (Ok done) = found ≡ extent
+IsSameExtent found extent (Err error) =
+    (found ≢ extent) × (journal_error_text error ≡ Some (codes "in use by another program"))
+
+-- the number of the next journal; the error `Write` if 64 bits don't hold it
+abbrev pub next_number : ℕ → Result ℕ ErrorCode
+next_number number = if nat_lt (number + 1) (2 ^ 64) then Ok (number + 1) else Err failure.Write
+
+-- why a journal can't be continued, or none if it can: by the number in its name, the number in its first
+-- entry, if that is whole, and what follows its last whole entry
+abbrev pub cause_of_tail : ℕ → Option ℕ → TailEnd → Option (List ℕ)
+cause_of_tail number None End = Some (codes "its last record is empty")
+cause_of_tail number None Short = Some (codes "its last record is damaged")
+cause_of_tail number begun Damaged = Some (codes "its last record is damaged")
+cause_of_tail number (Some begun) ended =
+    if begun == number then None else Some (codes "its last record has another number")
+
+-- the result is what was read of a journal, if there is no cause against continuing it; else that cause
+abbrev pub ContinuesUnless : Option (List ℕ) → Tail × TailEnd → Result (Tail × TailEnd) JournalError → Type 0
+ContinuesUnless None read result = result ≡ Ok read
+ContinuesUnless (Some cause) read (Ok other) = ⊥
+ContinuesUnless (Some cause) read (Err why) = journal_error_text why ≡ Some cause
+
+-- there is no cause against continuing the journal with this number in its name
+abbrev pub CanContinue : ℕ → Tail → TailEnd → Type 0
+CanContinue number tail ended = cause_of_tail number tail.record ended ≡ None
+
+-- the result of a write or a sync of a journal is returned; an error is noted as reported
+abbrev pub ReportsFirstError : Result ⊤ Error → LocalJournal → LocalJournal → Result ⊤ FileError → Type 0
+ReportsFirstError (Ok done) old new result = (result ≡ Ok (tt {0})) × (new ≡ old)
+ReportsFirstError (Err e) old new result =
+    (result ≡ Err (record { error = e })) × (new ≡ record old { is_reported = true })
 
 -- an error in reading or writing a journal has the text for some kind of error of the operating system
 pub record IsJournalError (fault : JournalError) : Type 0 where
   pub kind : ErrorKind
   pub text : journal_error_text fault ≡ journal_error_by kind
 
--- an error in reading the end of a journal with these bytes, if they are known: it has the text for a fault
--- that they have
-pub record IsTailFault (bytes : Option (List ℕ)) (fault : JournalError) : Type 0 where
-  pub tail : TailFault
+-- the error that the last journal has changed, or can't be read
+abbrev pub IsChangedOrError : JournalError → Type 0
+IsChangedOrError fault =
+    (journal_error_text fault ≡ Some (codes "in use by another program")) ⊎ IsJournalError fault
+
+-- an error in reading the end of a journal with these bytes, if they are known, from an `R`: it has the text
+-- for a fault that they have
+pub record IsTailFault (R : Type 0) (bytes : Option (List ℕ)) (fault : JournalError) : Type 0 where
+  pub tail : TailFault R
   pub has : HasNoTail bytes tail
   pub text : journal_error_text fault ≡ tail_error_text tail
 
--- an error in opening a journal or reading its end, whatever bytes it has
-abbrev pub IsTailError : JournalError → Type 0
-IsTailError fault = IsJournalError fault ⊎ ((bytes : Option (List ℕ)) × IsTailFault bytes fault)
+-- an error in opening a journal, or in reading its end from an `R`, whatever bytes it has
+abbrev pub IsTailError : Type 0 → JournalError → Type 0
+IsTailError R fault = IsJournalError fault ⊎ ((bytes : Option (List ℕ)) × IsTailFault R bytes fault)
+
+-- an error that tells what speaks against continuing a journal with this number in its name
+pub record IsCauseAgainst (number : ℕ) (fault : JournalError) : Type 0 where
+  pub tail : Tail
+  pub ended : TailEnd
+  pub cause : List ℕ
+  pub against : cause_of_tail number tail.record ended ≡ Some cause
+  pub text : journal_error_text fault ≡ Some cause
+
+-- a journal with this number in its name isn't continued: its end can't be read from an `R`, or speaks against it
+abbrev pub IsNotContinued : Type 0 → ℕ → JournalError → Type 0
+IsNotContinued R number fault = IsTailError R fault ⊎ IsCauseAgainst number fault
 
 -- ==== The names of the journals of a folder, `NUMBER-SECOND.record`
 -- a text is made of decimal digits, and not empty
@@ -81,10 +156,11 @@ ending = codes ".record"
 abbrev pub digits_of : ℕ → List ℕ
 digits_of number = styled_decimal (format_spec 32 0 4 10 (2 ^ 64 - 1)) number
 
--- the temporary path of a new journal, and its final path, with the Unix second at which it begins
+-- the temporary path of a new journal
 unfoldable pub part_of : List ℕ → ℕ → List ℕ
 part_of folder number = folder ++ (codes "/.new-" ++ digits_of number)
 
+-- the final path of a journal, with the Unix second at which it begins
 unfoldable pub name_of : List ℕ → ℕ → ℕ → List ℕ
 name_of folder number second =
     folder ++ (codes "/" ++ (digits_of number ++ (codes "-" ++ (decimal second ++ ending))))
@@ -121,10 +197,11 @@ pub record IsJournalAt (folder : List ℕ) (number : ℕ) (path : List ℕ) : Ty
   pub has : IsNumberIn name (Some number)
   pub is : path ≡ path_in folder name
 
--- the journal with the greatest number so far is one of the folder; so is the journal that is returned
+-- the journal with the greatest number so far is one of the folder
 abbrev pub IsJournalIn : List ℕ → Greatest → Type 0
 IsJournalIn folder it = IsJournalAt folder it.number (string_bytes it.path)
 
+-- the journal that is returned is one of the folder
 abbrev pub IsJournalFileIn : List ℕ → JournalFile → Type 0
 IsJournalFileIn folder it = IsJournalAt folder it.number (string_bytes it.path)
 
@@ -180,10 +257,11 @@ pub record IsUnreadBySystem (fault : FileReadError) : Type 0 where
 abbrev pub IsUnstamped : FileReadError → Type 0
 IsUnstamped fault = IsUnreadBySystem fault ⊎ (unread_text fault ≡ Some (codes "no file"))
 
--- the most bytes of a file that is read, and the text about a longer one
+-- the most bytes of a file that is read
 abbrev pub max_bytes : ℕ
 max_bytes = 1048576
 
+-- the text about a longer file
 abbrev pub too_long : List ℕ
 too_long = codes "longer than 1,048,576 bytes"
 
@@ -206,10 +284,11 @@ IsUnreadIf None result = ⊤
 abbrev pub is_malformed : List ℕ → Bool
 is_malformed line = if length line == 0 then false else is_none (parse_enrolment_line line)
 
--- the text about a malformed line, and about those beyond the first
+-- the text about the malformed line with this number
 unfoldable pub malformed_line : ℕ → List ℕ
 malformed_line number = codes "line " ++ (decimal number ++ codes " is not NAME CEILING, and passed over")
 
+-- the text about so many malformed lines more
 unfoldable pub more_lines : ℕ → List ℕ
 more_lines count = decimal count ++ codes " more such lines"
 

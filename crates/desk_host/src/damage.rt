@@ -59,16 +59,17 @@ impl From<AllocError> for LogCheckError {
 
 /// Checks the WAL of a database before its file is opened, and returns whether the WAL is damaged. The file
 /// is refused if its WAL is damaged, or exists without the file; both are reported on `errors`. A command
-/// that only copies the file (`is_copied`) goes on with what can be read of a damaged WAL. If another
-/// program has the file open, nothing is checked: opening it reports that. Nor is anything checked if the
-/// database is in memory.
+/// that only copies the file (`is_copied`) goes on with what can be read of a damaged WAL. If another program
+/// has the file open, nothing is checked: opening it reports that. Nor is anything checked if the database is
+/// in memory. The contract says which result goes with which report; that of `check_log` says what they have
+/// to do with the bytes of the WAL.
 ///
 /// # Errors
 ///
 /// `DamagedLog` if the WAL is damaged and the file isn't copied; `Memory` if memory runs out; `Store` if
 /// the WAL can't be read, which isn't reported, or exists without its file.
 pub fn check_before<E: Write>(
-    rt: &HostRuntime,
+    host: LocalHost<'_>,
     database: &Database,
     is_copied: bool,
     errors: &mut E,
@@ -79,7 +80,10 @@ pub fn check_before<E: Write>(
         ((result ≡ Ok false) × (E.contents errors.new ≡ E.contents errors.old)) }
 {
     match database.path() {
-        Some(path) => check_beside(rt.alloc(), &mut LocalHost::new(rt), path, is_copied, errors),
+        Some(path) => {
+            let mut files = host;
+            check_beside(host.alloc(), &mut files, path, is_copied, errors)
+        }
         None => Ok(false),
     }
 }
@@ -99,9 +103,9 @@ fn check_beside<F: HostFiles, E: Write>(
     check_found(alloc, path, is_copied, found, errors)
 }
 
-// Checks the WAL `found` of the file at a path, as `check_before` does: refuses the file, and reports why,
-// if the WAL exists without it, or is damaged and the file isn't copied (`is_copied`); else returns whether
-// the WAL is damaged.
+// Checks the WAL `found` of the file at a path, as `check_before` does: refuses the file if the WAL exists
+// without it, or is damaged and the file isn't copied (`is_copied`); else returns whether the WAL is damaged.
+// Damage, and a WAL without its file, are reported to `errors`.
 #[tactic(auto, using(crate::proofs::LossLemmas::begins))]
 fn check_found<R: Read + Drop, E: Write>(
     alloc: Global,
@@ -177,8 +181,8 @@ pub fn check_log<R: Read, E: Write>(
     }
 }
 
-// Reports that the WAL of the file at a path is damaged at `frame`, and `commits` commits are lost. Returns
-// where the write broke off, or `None`. Fails if memory runs out for the line.
+// Reports to `errors` that the WAL of the file at a path is damaged at `frame`, and `commits` commits are
+// lost. Returns where the write broke off, or `None`. Fails, unreported, if memory runs out.
 fn report_damage<E: Write>(
     alloc: Global,
     path: &str,
@@ -194,8 +198,8 @@ fn report_damage<E: Write>(
     Ok(report_line(&line, errors))
 }
 
-// The line that reports damage of the WAL of the file at `path`: from which frame on, counted from 0, and
-// how many commits are lost.
+// The line that reports damage of the WAL of the file at `path`: from which frame on, counted from 0, and how
+// many commits are lost. Fails if memory runs out.
 #[tactic(auto, unfolding(crate::specs::FoundLogs::damage_line))]
 fn damage_line(alloc: Global, path: &str, frame: u64, commits: u64) -> Result<String, AllocError>
     ensures { IfOk result (λ line. string_bytes line ≡ spec.damage_line path.now frame commits) }

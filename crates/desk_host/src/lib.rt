@@ -4,6 +4,7 @@
 
 pub mod damage;
 pub mod folders;
+pub mod journal_file;
 pub mod logs;
 pub mod operators;
 pub mod room;

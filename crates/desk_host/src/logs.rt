@@ -1,4 +1,5 @@
 //! Finds the WAL of a database file and decides whether it has to be checked, before the file is opened.
+//! Clauses on `answers` promise something only where the answers of the machine are known.
 
 ghost use Rattle.std.specs.Prelude.{◌≡◌, IfErr, IfOk, IfSome};
 ghost use Rattle.desk_cli.specs.declared.failure.ErrorCode.TheVariants.{Memory};

@@ -1,4 +1,5 @@
-//! The file of enrolments that the administrator changes while a desk serves: lines `NAME CEILING`.
+//! The file of enrolments that the administrator changes while a desk serves: lines `NAME CEILING`. No
+//! contract says what the operating system did, nor what went to the standard error.
 
 ghost use Rattle.std.specs.Prelude.{◌≡◌, List, [], ◌∷◌, IfErr, IfOk, IfSome, map, MatchResult, None, Option, option_map, string_bytes};
 ghost use Rattle.std.specs.IoError.{error_kind};
@@ -115,7 +116,7 @@ impl TextFiles for LocalHost<'_> {
 /// The file of enrolments, if there is one. Malformed lines are reported on the standard error.
 #[derive(Drop)]
 pub struct EnrolmentFile<'r, F: Drop> {
-    rt: &'r HostRuntime,
+    host: LocalHost<'r>,
     files: F,
     path: Option<&'r str>,
     // The stamp of the file whose operators were last returned.
@@ -126,15 +127,15 @@ pub struct EnrolmentFile<'r, F: Drop> {
     reported: Option<&'static str>,
 }
 
-/// The file of enrolments at `path`; one without a path if that is `None`. The file is read once, so that
-/// its malformed lines are reported before the desk serves. Its operators aren't returned yet: the first
-/// look does that.
+/// The file of enrolments at `path`; one without a path if that is `None`. The file is read once, so that its
+/// malformed lines are reported before the desk serves. Its operators aren't returned yet: the first look
+/// does that. The contract gives only the path.
 ///
 /// # Errors
 ///
 /// `Read` if the file can't be read, which is reported; `Memory` if memory ran out.
 pub fn operators_of<'r, F: TextFiles + Drop>(
-    rt: &'r HostRuntime,
+    host: LocalHost<'r>,
     files: F,
     path: Option<&'r str>,
 ) -> Result<EnrolmentFile<'r, F>, ErrorCode>
@@ -142,7 +143,7 @@ pub fn operators_of<'r, F: TextFiles + Drop>(
         option_map (λ path. path.now) file.path ≡ option_map (λ path. path.now) path.entry) }
 {
     let mut file = EnrolmentFile {
-        rt,
+        host,
         files,
         path,
         seen: None,
@@ -152,11 +153,11 @@ pub fn operators_of<'r, F: TextFiles + Drop>(
     let Some(path) = path else {
         return Ok(file);
     };
-    match file.read_file(rt.alloc(), path) {
+    match file.read_file(host.alloc(), path) {
         Ok(_) => Ok(file),
         Err(FileReadError::Memory) => Err(ErrorCode::Memory),
         Err(FileReadError::Cause(cause)) => {
-            report_text(rt.alloc(), path, cause, &mut rt.stderr());
+            report_text(host.alloc(), path, cause, &mut host.errors());
             Err(ErrorCode::Read)
         }
     }
@@ -179,20 +180,20 @@ impl<F: TextFiles + Drop> EnrolmentFile<'_, F> {
         let lines = lines_of(alloc, &text)?;
         if self.checked != Some(stamp) {
             self.checked = Some(stamp);
-            report_lines(alloc, path, &lines, &mut self.rt.stderr())?;
+            report_lines(alloc, path, &lines, &mut self.host.errors())?;
         }
         Ok(parse_enrolment_lines(alloc, &lines)?)
     }
 
-    // Reports why the file at `path` can't be read, unless `cause` was the last cause reported. A failed
-    // write is ignored.
+    // Reports on the standard error why the file at `path` can't be read, unless `cause` was the last cause
+    // reported. A failed write and running out of memory are ignored.
     fn report_once(&mut self, path: &str, cause: &'static str)
         ensures asked { F.asked self.new.files ≡ F.asked self.old.files }
         ensures seen { self.new.seen ≡ self.old.seen }
     {
         if self.reported != Some(cause) {
             self.reported = Some(cause);
-            report_text(self.rt.alloc(), path, cause, &mut self.rt.stderr());
+            report_text(self.host.alloc(), path, cause, &mut self.host.errors());
         }
     }
 }
@@ -200,7 +201,7 @@ impl<F: TextFiles + Drop> EnrolmentFile<'_, F> {
 impl<F: TextFiles + Drop> EnrolmentSource for EnrolmentFile<'_, F> {
     // The enrolments in the file, if it was changed since they were last returned; else an empty list, also
     // if there is no file or it can't be read. Such a file is reported once for each cause, and read again at
-    // the next look. Fails if memory ran out.
+    // the next look. Fails with `Memory` if memory runs out.
     #[tactic(auto, using(crate::proofs::OperatorLemmas::nothing_enrolled))]
     fn look(&mut self, alloc: Global) -> Result<Vec<Enrolment>, ErrorCode>
         ensures small { IfOk result (λ newly_enrolled. AreEnrolments newly_enrolled.items) }
@@ -265,7 +266,7 @@ fn read_text<F: HostFiles>(files: &F, alloc: Global, path: &str) -> Result<Strin
 }
 
 // The text of the open file `file`. At most one byte more than `MAX_BYTES` is read, to learn whether it is
-// longer.
+// longer. The contract gives only the causes of errors.
 fn text_in<R: Read + Drop>(alloc: Global, file: R) -> Result<String, FileReadError>
     ensures { IfErr result IsTextFault }
 {

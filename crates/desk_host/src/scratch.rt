@@ -72,8 +72,8 @@ pub fn make_scratch<P: Folder, E: Write>(
     }
 }
 
-// Reports why the scratch copy of `source` at the path `scratch` can't be made, and returns the error code.
-// Nothing is reported if memory ran out.
+// Reports to `errors` why the scratch copy of `source` at the path `scratch` can't be made, and returns the
+// error code: `Memory` if memory ran out, which isn't reported; else `Store`.
 fn report_fault<E: Write>(
     alloc: Global,
     source: &str,

@@ -47,11 +47,12 @@ impl ReadMode {
 
 /// How the file at a path is read, by whether its WAL is damaged (`is_damaged`). If a sound WAL may have a
 /// commit, the file itself is read: the WAL may have newer versions of its pages. The file itself is also
-/// read if SQLite wouldn't take the path for one (`:memory:` or `file:..`).
-pub fn read_mode(rt: &HostRuntime, path: &str, is_damaged: bool) -> ReadMode
+/// read if SQLite wouldn't take the path for one (`:memory:` or `file:..`). The contract says which results
+/// are possible; that of `mode_at` says which one the answers of the machine lead to.
+pub fn read_mode(host: LocalHost<'_>, path: &str, is_damaged: bool) -> ReadMode
     ensures { MayBeRead is_damaged (access.is_no_path path.now) result }
 {
-    mode_at(rt.alloc(), &LocalHost::new(rt), path, is_damaged)
+    mode_at(host.alloc(), &host, path, is_damaged)
 }
 
 // What `read_mode` returns, for any `HostFiles`.
@@ -89,8 +90,8 @@ fn mode_for(is_damaged: bool, bad_checksums: Option<u64>, is_out_of_order: bool)
     }
 }
 
-// Whether recovery may apply a commit of the WAL of the file at a path; also true if that can't be found
-// out. The WAL is looked for beside the file to which links lead, and its size is tested before it is read.
+// Whether recovery may apply a commit of the WAL of the file at a path; true if that can't be found out. The
+// WAL is looked for beside the file to which links lead, and its size is tested before it is read.
 fn has_changes<F: HostFiles>(alloc: Global, files: &F, path: &str) -> bool
     ensures { IfSome (F.answers files.now) (λ it. HasChanges it path.now result) }
 {

@@ -1,5 +1,6 @@
-//! Why a file can't be opened or made, in the words of a report. The cause is found by what is at the path and
-//! by the bytes of the file; no table is read.
+//! Why a file can't be opened or made, in the words of a report. The cause is found by what is at the path
+//! and by the bytes of the file; no table is read. The contracts of the reports say only that text, perhaps
+//! none, is appended to `errors`.
 
 ghost use Rattle.std.specs.Prelude.{◌≡◌, IfSome, option_map};
 ghost use Rattle.desk_program.specs.Keeping.{bytes_written};
@@ -38,12 +39,12 @@ fn taken_text(is_no_path: bool) -> &'static str
     if is_no_path { NO_PATH } else { TAKEN }
 }
 
-/// Reports why SQLite refuses the file at `path`, by the `state` that `probe` found there. The report calls
-/// the file `name`. If its pages may be damaged and some have wrong checksums, it says how many. A failed
-/// write and running out of memory are ignored.
+/// Reports to `errors` why SQLite refuses the file at `path`, by the `state` that `probe` found there. The
+/// report calls the file `name`. If its pages may be damaged and some have wrong checksums, it says how many.
+/// A failed write and running out of memory are ignored.
 #[tactic(auto, using(crate::proofs::lemmas::Reporting::reports_nothing))]
 pub fn report_refused_file<E: Write>(
-    rt: &HostRuntime,
+    host: LocalHost<'_>,
     path: &str,
     name: &str,
     state: FileState,
@@ -51,11 +52,12 @@ pub fn report_refused_file<E: Write>(
 )
     ensures { Reports (bytes_written E.Write errors.old errors.new) }
 {
-    match bad_checksum_count(&LocalHost::new(rt), path, state) {
-        Some(count) => report_pages(rt.alloc(), name, count, errors),
+    match bad_checksum_count(&host, path, state) {
+        Some(count) => report_pages(host.alloc(), name, count, errors),
         None => {
-            let cause = cause_of(&mut LocalHost::new(rt), path, state);
-            report_text(rt.alloc(), name, cause, errors);
+            let mut folder = host;
+            let cause = cause_of(&mut folder, path, state);
+            report_text(host.alloc(), name, cause, errors);
         }
     }
 }
@@ -79,8 +81,8 @@ fn may_be_damaged(state: FileState) -> bool
     matches!(state, FileState::Filled(Ok(Start::Database)))
 }
 
-// Reports that `count` pages of the file at `path` have wrong checksums. A failed write and running out of
-// memory are ignored.
+// Reports to `errors` that `count` pages of the file at `path` have wrong checksums. A failed write and
+// running out of memory are ignored.
 #[tactic(auto, using(crate::proofs::lemmas::Reporting::reports_nothing))]
 fn report_pages<E: Write>(alloc: Global, path: &str, count: u64, errors: &mut E)
     ensures { Reports (bytes_written E.Write errors.old errors.new) }
@@ -113,11 +115,12 @@ fn is_free(state: FileState) -> bool
     matches!(state, FileState::Free)
 }
 
-/// Why the file at a path can't be opened, whatever its content, in the words of a report; `None` if it can.
-pub fn access_cause(rt: &HostRuntime, path: &str) -> Option<&'static str>
+/// Why the file at a path can't be opened, whatever its content, in the words of a report; `None` if it can,
+/// or if memory ran out. The contract says only that the cause is one of the words for that.
+pub fn access_cause(mut host: LocalHost<'_>, path: &str) -> Option<&'static str>
     ensures { IfSome result (λ cause. IsDenialText cause.now) }
 {
-    cause_at(&mut LocalHost::new(rt), path)
+    cause_at(&mut host, path)
 }
 
 /// What `access_cause` returns, for any `HostFiles`.

@@ -145,6 +145,8 @@ impl<'s> LocalHost<'s> {
     }
 }
 
+// The answers of a `LocalHost` are not known (`answers` is None), so the trait's clauses promise nothing of
+// these bodies.
 impl HostFiles for LocalHost<'_> {
     type File = File;
 

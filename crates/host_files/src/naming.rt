@@ -154,7 +154,7 @@ pub(crate) fn is_missing<F: HostFiles>(files: &F, path: &str) -> bool
 }
 
 // Whether what is at `path` may be removed as left by an interrupted copy: nothing is there, or a regular
-// file other than `source`.
+// file other than `source`. False if that can't be found out.
 fn is_left<F: HostFiles>(files: &F, source: &str, path: &str) -> bool
     ensures { IfSome (F.answers files.now) (λ it. result ≡ access.is_left it source.now path.now) }
 {
@@ -166,7 +166,7 @@ fn is_left<F: HostFiles>(files: &F, source: &str, path: &str) -> bool
 }
 
 // Removes the file `part` and its WAL `log`, which are locked meanwhile; opening them makes one that is
-// missing. The WAL goes first: if that fails, both stay. Returns why they weren't removed, or `None`.
+// missing. The WAL goes first: if that fails, both stay. Returns why one of them may still exist, or `None`.
 fn clear_left(rt: &HostRuntime, part: &str, log: &str) -> Option<&'static str> {
     match sqlite_std_file::open(rt, part, Unknown) {
         Ok(_held) => {
@@ -179,7 +179,7 @@ fn clear_left(rt: &HostRuntime, part: &str, log: &str) -> Option<&'static str> {
 }
 
 /// Makes an empty file at a path, if nothing exists there: only its owner can read and write it. Errors are
-/// ignored, since opening the file meets them again.
+/// ignored, since opening the file meets them again. A name that SQLite takes for no path is left alone.
 pub fn make_private(rt: &HostRuntime, path: &str) {
     if !is_no_path(path) {
         let _ = OpenOptions::new()
@@ -244,8 +244,8 @@ pub fn name_with(alloc: Global, path: &str, end: &str) -> Result<String, AllocEr
 }
 
 /// Gives a complete new file its final name: removes its WAL, which is empty, renames it, and syncs its
-/// folder. Returns whether all of that succeeded. If only the sync fails, the file has its name all the
-/// same.
+/// folder. It stops at the first that fails, and returns whether none did. If only the sync fails, the file
+/// has its name all the same.
 #[tactic(auto, using(crate::proofs::lemmas::Naming::fails_after))]
 pub fn publish<N: Folder>(folder: &mut N, names: &NewFile) -> bool
     ensures named { (to : List ℕ) → AreNames to names.now → result ≡ true

@@ -1,5 +1,5 @@
 //! Makes the scratch copy of a database file, which is read in place of the file: repaired, or byte for byte
-//! together with its WAL.
+//! together with its WAL. No contract says what the operating system did.
 
 ghost use Rattle.std.specs.Prelude.{◌≡◌, IfErr, IfSome};
 ghost use Rattle.host_files.specs.Access as left;
@@ -72,7 +72,7 @@ pub fn write_scratch(
             }
         }
         Err(OpenError::OutOfMemory) => Err(ScratchFault::OutOfMemory),
-        Err(_) => Err(ScratchFault::Source(access_cause(rt, source).unwrap_or(UNREAD))),
+        Err(_) => Err(ScratchFault::Source(access_cause(host, source).unwrap_or(UNREAD))),
     }
 }
 
@@ -103,8 +103,8 @@ fn copy_open_file(file: &mut File, made: &mut File) -> io::Result<()> {
     copy_mended(file, made, len)
 }
 
-// Copies the file `source` and its WAL `log` to the free path `scratch` and its WAL. The originals are
-// closed last: closing one releases its lock.
+// Copies the file `source` and its WAL `log` to the free path `scratch` and its WAL. It stops at the first
+// error. The originals are closed last: closing one releases its lock.
 fn write_pair(
     rt: &HostRuntime,
     source: &str,

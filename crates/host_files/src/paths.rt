@@ -55,7 +55,7 @@ impl OpenPaths for NoPaths {
 /// the standard error, once.
 #[derive(Drop)]
 pub struct LocalOpenPaths<'r> {
-    rt: &'r HostRuntime,
+    host: LocalHost<'r>,
     file: &'r str,
     log: String,
     // the open files, once they are noted
@@ -71,7 +71,7 @@ pub struct LocalOpenPaths<'r> {
 ///
 /// `Memory` if memory runs out.
 pub fn paths_at<'r>(
-    rt: &'r HostRuntime,
+    host: LocalHost<'r>,
     database: &'r Database,
 ) -> Result<LocalOpenPaths<'r>, ErrorCode>
     ensures unheld { IfOk result (λ paths. IsUnheldAt (unwrap_or (file_of database.entry.now) []) paths) }
@@ -79,9 +79,9 @@ pub fn paths_at<'r>(
 {
     let file = database.path().unwrap_or("");
     Ok(LocalOpenPaths {
-        rt,
+        host,
         file,
-        log: log_beside(rt.alloc(), &LocalHost::new(rt), file)?,
+        log: log_beside(host.alloc(), &host, file)?,
         held_file: None,
         held_log: None,
         is_reported: false,
@@ -103,8 +103,8 @@ fn log_beside<F: HostFiles>(alloc: Global, files: &F, file: &str) -> Result<Stri
 }
 
 impl LocalOpenPaths<'_> {
-    // Reports `text` about the database file, unless something was reported before. A failed write is
-    // ignored.
+    // Reports `text` about the database file on the standard error, unless something was reported before. A
+    // failed write and running out of memory are ignored.
     fn report_once(&mut self, text: &str)
         ensures reported { self.new.is_reported ≡ true }
         ensures same { (self.new.held_file ≡ self.old.held_file)
@@ -112,7 +112,7 @@ impl LocalOpenPaths<'_> {
     {
         if !self.is_reported {
             self.is_reported = true;
-            report_text(self.rt.alloc(), self.file, text, &mut self.rt.stderr());
+            report_text(self.host.alloc(), self.file, text, &mut self.host.errors());
         }
     }
 }
@@ -120,15 +120,15 @@ impl LocalOpenPaths<'_> {
 impl OpenPaths for LocalOpenPaths<'_> {
     fn note_open_files(&mut self) {
         if self.held_file.is_none() {
-            self.held_file = identity_at(&LocalHost::new(self.rt), self.file);
+            self.held_file = identity_at(&self.host, self.file);
         }
         if self.held_log.is_none() {
-            self.held_log = identity_at(&LocalHost::new(self.rt), &self.log);
+            self.held_log = identity_at(&self.host, &self.log);
         }
     }
 
     fn leads_to_file(&mut self) -> bool {
-        let is_there = is_at(&LocalHost::new(self.rt), self.file, self.held_file);
+        let is_there = is_at(&self.host, self.file, self.held_file);
         if !is_there {
             self.report_once("it was moved or removed while the desk ran");
         }
@@ -136,7 +136,7 @@ impl OpenPaths for LocalOpenPaths<'_> {
     }
 
     fn leads_to_log(&mut self) -> bool {
-        let is_there = is_at(&LocalHost::new(self.rt), &self.log, self.held_log);
+        let is_there = is_at(&self.host, &self.log, self.held_log);
         if !is_there {
             self.report_once("its log was moved or removed while the desk ran");
         }

@@ -15,10 +15,10 @@ use crate::state::{
 use std::io::{ErrorKind, Read};
 
 /// Finds out what is at a path. `is_made`: the command makes a missing file; else it needs one that exists.
-pub fn probe(rt: &HostRuntime, path: &str, is_made: bool) -> FileState
+pub fn probe(mut host: LocalHost<'_>, path: &str, is_made: bool) -> FileState
     ensures { MayFind (spec.is_no_path path.now) is_made result }
 {
-    probe_at(&mut LocalHost::new(rt), path, is_made)
+    probe_at(&mut host, path, is_made)
 }
 
 // What `probe` returns, for any `HostFiles`.

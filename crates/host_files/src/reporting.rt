@@ -37,7 +37,7 @@ pub fn line_of(alloc: Global, path: &str, text: &str) -> Result<String, AllocErr
     format!(in alloc; "uss_desk: {path}: {text}\n")
 }
 
-/// Prints a line, and returns where the write broke off, or `None`.
+/// Prints a line to `errors`, and returns where the write broke off, or `None` if it didn't.
 #[tactic(auto, using(crate::proofs::lemmas::Reporting::noted))]
 pub fn report_line<E: Write>(line: &str, errors: &mut E) -> Option<WriteError<E>>
     ensures cut { IsWrittenUpTo line.now result (bytes_written E.Write errors.old errors.new) }
@@ -46,8 +46,8 @@ pub fn report_line<E: Write>(line: &str, errors: &mut E) -> Option<WriteError<E>
     write_whole(errors, line.as_bytes()).err()
 }
 
-/// Reports that a database has no operator: the one in the file at `path`, or the one in memory if that is
-/// `None`. A failed write and running out of memory are ignored.
+/// Reports to `errors` that a database has no operator: the one in the file at `path`, or the one in memory
+/// if that is `None`. A failed write and running out of memory are ignored.
 pub fn report_unenrolled<E: Write>(alloc: Global, path: Option<&str>, errors: &mut E)
     ensures { IsWrittenIfRoom (spec.unenrolled_line (option_map (λ path. path.now) path.entry))
         (bytes_written E.Write errors.old errors.new) }
