@@ -187,7 +187,7 @@ module _ {D E : Type 0} {g : disk.Ghosts D} {k : disk.Ghosts E} (image other : I
     pub made : IsMadeIn other held
     pub left : IsSomeAnd it.unclosed (IsLeftUnclosed held)
 
-  -- one or the other
+  -- why files are not copied: some were refused, or the new ones can't be closed
   abbrev pub FailsAtFiles : CopyEnd g k → Type 0
   FailsAtFiles it = FailsRefused it ⊎ FailsUnclosed it
 

@@ -47,9 +47,11 @@ bad_checksums_line path pages about_rows =
     codes "uss_desk: " ++ (path ++ (codes ": " ++ (decimal pages
     ++ (codes " pages without their sums, as sqlite3 leaves them; the rows " ++ (about_rows ++ codes "\n")))))
 
+-- that line, by what is known of the rows
 abbrev pub rows_line : List ℕ → ℕ → Rows → List ℕ
 rows_line path pages it = bad_checksums_line path pages (rows_text it)
 
+-- the line that reports that the tables of a file are in another order
 abbrev pub order_line : List ℕ → List ℕ
 order_line path = line_of path order_text
 
@@ -239,7 +241,7 @@ module _ {D : Type 0} {g : disk.Ghosts D} (image : Image) (path : List ℕ) (tak
       Result ⊤ ErrorCode → Option (Result (Held (FileStore D g)) (OpenError D g)) → Steps → Type 0
   IsLeftAlone done judged steps = (done ≡ Ok tt) × (judged ≡ None) × (steps.after ≡ steps.before)
 
-  -- one or the other, by how the file has to be read
+  -- what is done with a file, by how it has to be read: all of this, or nothing
   abbrev pub IsReorderedIf :
       ReadMode → Result ⊤ ErrorCode → Option (Result (Held (FileStore D g)) (OpenError D g)) → Steps → Type 0
   IsReorderedIf way.OtherOrder done judged steps = IsReordered done judged steps

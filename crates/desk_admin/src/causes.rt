@@ -32,7 +32,7 @@ pub fn report_made<E: Write>(
 {
     match (database, failure) {
         (Database::File(path), ErrorCode::Store) => {
-            report_refused_file(host.rt, path, path, probe(host.rt, path, true), errors);
+            report_refused_file(host, path, path, probe(host, path, true), errors);
         }
         _ => report_database(host, database, failure, errors),
     }
@@ -70,10 +70,10 @@ pub fn report_cause<E: Write>(
 {
     let cause = match failure {
         ErrorCode::Store => return report_refused_file(
-            host.rt,
+            host,
             path,
             name,
-            probe(host.rt, path, false),
+            probe(host, path, false),
             errors,
         ),
         ErrorCode::NotADesk => desk_cause(host, path),
@@ -84,11 +84,12 @@ pub fn report_cause<E: Write>(
 }
 
 // Why the file at `path` is no valid database. It is read once more, to learn whether its tables are in
-// another order than a desk's, or which part of it is invalid.
+// another order than a desk's, or which part of it is invalid. The contract says only that the text is one of
+// those for such a file.
 fn desk_cause(host: LocalHost<'_>, path: &str) -> &'static str
     ensures { IsNoDeskText result.now }
 {
-    if read_mode(host.rt, path, false) == ReadMode::OtherOrder {
+    if read_mode(host, path, false) == ReadMode::OtherOrder {
         return order_text();
     }
     named_cause(part_of(&part_at(host.rt, path, Unknown)))

@@ -308,9 +308,9 @@ pub fn copy_file<F: Start, N: Start, P: Folder, W: Write + Drop, E: Write + Drop
     }
 }
 
-// Reports that tables, indexes and views beside the desk's are not copied, if the `database` has any.
-// `connection` is open to it. Nothing is reported for a database in memory. A failed write and running out of
-// memory are ignored.
+// Reports to `errors` that tables, indexes and views beside the desk's are not copied, if the `database` has
+// any. `connection` is open to it. Nothing is reported for a database in memory. A failed write and running
+// out of memory are ignored.
 fn report_others<D: Disk, E: Write>(
     alloc: Global,
     database: &Database,
@@ -384,9 +384,9 @@ impl<'s> CopySource<'s> {
     }
 }
 
-// Gives the new file its final name (of its `names`) if it was `copied`; else reports why not, and removes
-// what was made. If the name can't be given, that is reported, and the file may stay under its temporary
-// name; if only the folder can't be synced, it has its final name all the same.
+// Gives the new file its final name (of its `names`) if it was `copied`; else reports to `errors` why not,
+// and removes what was made. If the name can't be given, that is reported, and the file may stay under its
+// temporary name; if only the folder can't be synced, it has its final name all the same.
 fn publish_or_discard<D: Disk + Drop, N: Disk + Drop, P: Folder, E: Write>(
     host: LocalHost<'_>,
     folder: &mut P,
@@ -447,7 +447,7 @@ fn publish_copy<P: Folder, E: Write>(
 }
 
 // Copies the database at `path` to new files at `to`, and closes these. `starts` stands for the content that
-// the files of both had before.
+// the files of both had before. After an error, what was made stays: the caller removes it.
 fn copy_and_close<F: Start, N: Start>(
     host: LocalHost<'_>,
     path: &str,
@@ -499,8 +499,8 @@ fn close_copy<D: Disk + Drop, N: Disk + Drop>(
 }
 
 // Makes room for the new file: its `names` must be free, and what an interrupted copy left is removed. If
-// that fails, the cause is reported, and the error code is `Store`. The file to be copied (`source`) is never
-// removed. A failed write and running out of memory are ignored.
+// that fails, the cause is reported to `errors`, and the error code is `Store`. The file to be copied
+// (`source`) is never removed. A failed write and running out of memory are ignored.
 #[tactic(auto, using(host_files::proofs::lemmas::Reporting::reports_nothing))]
 fn make_room_or_report<P: Folder, E: Write>(
     alloc: Global,
@@ -526,9 +526,9 @@ fn make_room_or_report<P: Folder, E: Write>(
     }
 }
 
-// Reports why a copy failed (`failure`), and removes what was made under the temporary one of the `names`. If
-// nothing was made, the cause is looked for in the `source`. A failed write and running out of memory are
-// ignored.
+// Reports to `errors` why a copy failed (`failure`), and removes what was made under the temporary one of the
+// `names`. If nothing was made, the cause is looked for in the `source`. A failed write and running out of
+// memory are ignored.
 #[tactic(auto, using(host_files::proofs::lemmas::Reporting::reports_nothing))]
 fn report_and_discard<P: Folder, E: Write>(
     host: LocalHost<'_>,

@@ -43,8 +43,10 @@ pub struct ReorderTarget<'p> {
 }
 
 /// Puts the tables of a database in canonical order if they are in another, and reports that on the standard
-/// error; a failed write there is ignored. Nothing is done for a database in memory. A file of schema 1 is
-/// accepted if `takes_old`. The contract assumes nothing about the content of files.
+/// error; a failed write there is ignored. Nothing is done for a database in memory. A file in another order
+/// is left alone if its checksums are wrong or its WAL may have a commit (`read_mode` then answers
+/// `BadChecksums` or `Itself`). A file of schema 1 is accepted if `takes_old`. The contract gives only the
+/// error codes; that of `reorder` says what is done.
 ///
 /// # Errors
 ///
@@ -61,23 +63,24 @@ pub fn reorder_for(
     let Some(path) = database.path() else {
         return Ok(());
     };
+    // Cheap, so asked first. The `false` below: a file with a damaged WAL was refused by `check_before`.
     if !host.is_out_of_order(path) {
         return Ok(());
     }
     let file = ReorderTarget {
         path,
-        way: read_mode(host.rt, path, false),
+        way: read_mode(host, path, false),
         takes_old,
     };
     let mut folder = host;
     reorder(host, &mut folder, file, Unknown, &mut host.errors()).0
 }
 
-/// Puts the tables of a file in canonical order if they are in another. A repaired scratch copy is made
-/// beside it in `folder`, read and removed; if it is a valid database that the command accepts, the file
-/// itself is reordered. Success or the cause of failure goes to `errors`; a failed write there is ignored.
-/// `start` stands for the content of the scratch copy. Also returns the connection to it, or why it can't be
-/// read; `None` if there was no scratch copy.
+/// Puts the tables of a file in canonical order if `file.way` says that they are in another. A repaired
+/// scratch copy is made beside it in `folder`, read and removed; if it is a valid database that the command
+/// accepts, the file itself is reordered. Success or the cause of failure goes to `errors`, unless memory
+/// runs out; a failed write there is ignored. `start` stands for the content of the scratch copy. Also
+/// returns the connection to it, or why it can't be read; `None` if there was no scratch copy.
 ///
 /// # Errors
 ///
@@ -102,7 +105,7 @@ pub fn reorder<F: Start, P: Folder, E: Write>(
 }
 
 // Makes, reads and removes a repaired scratch copy of a file, and reorders the file if the copy is a valid
-// database that the command accepts. Else the cause is reported, and the file isn't touched.
+// database that the command accepts. Else the cause is reported to `errors`, and the file isn't touched.
 fn reorder_by_scratch<F: Start, P: Folder, E: Write>(
     host: LocalHost<'_>,
     folder: &mut P,
@@ -125,7 +128,8 @@ fn reorder_by_scratch<F: Start, P: Folder, E: Write>(
 }
 
 // Removes the scratch copy of a file, and reorders the file if the copy was read as a valid database that the
-// command accepts. `found` is the result of reading it. Success or the cause of failure is reported.
+// command accepts. `found` is the result of reading it. Success or the cause of failure is reported to
+// `errors`.
 fn reorder_if_valid<D: Disk + Drop, P: Folder, E: Write>(
     host: LocalHost<'_>,
     folder: &mut P,
@@ -151,8 +155,8 @@ fn reorder_if_valid<D: Disk + Drop, P: Folder, E: Write>(
 }
 
 // `Ok` if the scratch copy at the path `scratch` was read (`found`) as a valid database that the command
-// accepts; else reports why it wasn't, under the file's own name. Also returns `found` without the
-// statistics. The scratch copy still exists, since the report may read it again.
+// accepts; else reports to `errors` why it wasn't, under the file's own name. Also returns `found` without
+// the statistics. The scratch copy still exists, since the report may read it again.
 fn admit_scratch<D: Disk + Drop, E: Write>(
     host: LocalHost<'_>,
     file: ReorderTarget<'_>,
@@ -194,7 +198,7 @@ fn reorder_or_report<P: Folder, E: Write>(
     ensures reported { OnErr result (Reports (bytes_written E.Write errors.old errors.new)) }
 {
     if !folder.order(path) {
-        let cause = access_cause(host.rt, path).unwrap_or(UNWRITTEN);
+        let cause = access_cause(host, path).unwrap_or(UNWRITTEN);
         report_text(host.alloc(), path, cause, errors);
         return Err(ErrorCode::Store);
     }

@@ -93,9 +93,9 @@ pub fn check_by_scratch<F: Start, P: Folder, W: Write + Drop, E: Write + Drop>(
     (exit, Some(judged))
 }
 
-// Prints the statistics of the file at `path`, or reports why its scratch copy, at `scratch` and made as
-// `way` says, is refused. `found` is the result of reading the scratch copy, which still exists, since the
-// report may read it again.
+// Prints the statistics of the file at `path` to `writers.output`, or reports to `writers.errors` why its
+// scratch copy, at `scratch` and made as `way` says, is refused. `found` is the result of reading the scratch
+// copy, which still exists, since the report may read it again.
 fn report_found<D: Disk + Drop, W: Write + Drop, E: Write + Drop>(
     host: LocalHost<'_>,
     path: &str,
@@ -133,8 +133,8 @@ fn report_found<D: Disk + Drop, W: Write + Drop, E: Write + Drop>(
     }
 }
 
-// Reports what is wrong with a file whose scratch copy is a valid database: its checksums or its table order,
-// by the `way` in which it was read. A failed write and running out of memory are ignored.
+// Reports to `errors` what is wrong with a file whose scratch copy is a valid database: its checksums or its
+// table order, by the `way` in which it was read. A failed write and running out of memory are ignored.
 fn report_defect<E: Write>(alloc: Global, path: &str, way: ReadMode, errors: &mut E)
     ensures { IsWrittenIfAny (spec.defect_line path.now way) (bytes_written E.Write errors.old errors.new) }
 {
@@ -173,7 +173,7 @@ fn report_refused<E: Write>(
 }
 
 // Reports why the scratch copy at the path `scratch` is refused, under the name of its file (`path`), and
-// prints the error code `failure`. A failed write is ignored.
+// prints the error code `failure`, both to `errors`. A failed write is ignored.
 fn report_refused_as<E: Write>(
     host: LocalHost<'_>,
     path: &str,
@@ -188,8 +188,8 @@ fn report_refused_as<E: Write>(
 }
 
 // Reports how many `pages` of a file have wrong checksums and that its rows are invalid, and prints the error
-// code `Store`. If memory ran out (`failure`), only the code `Memory` is printed: that says nothing about the
-// rows. A failed write is ignored.
+// code `Store`, both to `errors`. If memory ran out (`failure`), only the code `Memory` is printed: that says
+// nothing about the rows. A failed write is ignored.
 fn report_invalid_rows<E: Write>(
     alloc: Global,
     path: &str,
@@ -250,9 +250,9 @@ pub fn copy_by_scratch<F: Start, N: Start, P: Folder, W: Write + Drop, E: Write 
     (exit, Some(copied))
 }
 
-// Reports that only the rows of the file at `path` were tested, if it has wrong checksums (`way`) and its
-// copy succeeded (`status` is 0). Else nothing is reported. A failed write and running out of memory are
-// ignored.
+// Reports to `errors` that only the rows of the file at `path` were tested, if it has wrong checksums (`way`)
+// and its copy succeeded (`status` is 0). Else nothing is reported. A failed write and running out of memory
+// are ignored.
 fn report_tested<E: Write>(alloc: Global, path: &str, way: ReadMode, status: u8, errors: &mut E)
     ensures { IsTestReported path.now way status (bytes_written E.Write errors.old errors.new) }
 {
@@ -261,8 +261,8 @@ fn report_tested<E: Write>(alloc: Global, path: &str, way: ReadMode, status: u8,
     }
 }
 
-// Reports how many pages of the file at `path` have wrong checksums, and what is known of its rows. A failed
-// write and running out of memory are ignored.
+// Reports to `errors` how many pages of the file at `path` have wrong checksums, and what is known of its
+// rows. A failed write and running out of memory are ignored.
 fn report_rows<E: Write>(alloc: Global, path: &str, pages: u64, rows: Rows, errors: &mut E)
     ensures { IsWrittenIfRoom (spec.rows_line path.now pages rows)
         (bytes_written E.Write errors.old errors.new) }

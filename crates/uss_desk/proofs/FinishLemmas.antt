@@ -13,7 +13,8 @@ use Rattle.desk_cli.specs.Exits.{Ending}
 use Rattle.desk_recording.specs.Recovering.{Undone}
 use Rattle.desk_tables.specs.Store.{Shown}
 use Rattle.uss_desk.specs.FilesLeft.{FailsClosed, IsClosed, is_closed}
-use Rattle.uss_desk.specs.Finishing.{IsDone, IsFinished, IsNumbered, IsUnfinished, KeepsAlone, next_number}
+use Rattle.uss_desk.specs.Finishing.{IsDone, IsFinished, IsNumbered, IsUnfinished, KeepsAlone}
+use Rattle.desk_host.specs.Operators.{next_number}
 use Rattle.uss_desk.specs.declared.watching.CloseReport.{CloseReport}
 
 -- the number of a folder's last record, by whether a request is asked again

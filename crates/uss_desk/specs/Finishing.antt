@@ -1,6 +1,5 @@
 -- Journals: what the last one left pending is recovered, why one is refused, and what is played with one.
 use Rattle.std.specs.Prelude.{◌≡◌, ◌+◌, ◌^◌, [], ◌==◌, ℕ, Bool, true, false, List, Option, None, Some, Result, Ok, Err, codes, if◌then◌else◌, nat_lt, ◌⊎◌, ⊤, IsSome, ◌≤◌, IfErr, IfOk}
-use Rattle.std.specs.declared.io.Error.{Error}
 use Rattle.std.specs.{Global.Vec, Option.IsSomeAnd}
 use Rattle.sqlite_trees.specs.{declared.store.Store.Ghosts, View.doubt}
 use Rattle.sqlite_disk.specs.declared.Disk as disk
@@ -15,21 +14,9 @@ use Rattle.desk_tables.specs.Store.{Shown}
 use Rattle.desk_cli.specs.{declared.failure.ErrorCode.ErrorCode, declared.line.Line.Line, declared.line.Enrolment.Enrolment, declared.line.PlayArgs.PlayArgs, Exits.Ending}
 use Rattle.desk_cli.specs.declared.failure.ErrorCode.TheVariants as failure
 use Rattle.desk_cli.specs.declared.line.Line.TheVariants as line
-use Rattle.desk_host.specs.{declared.folders.JournalFile.JournalFile, declared.folders.JournalError.JournalError, Operators.journal_error_text}
-use Rattle.desk_host.specs.declared.folders.JournalError.TheVariants as unkept
-use Rattle.uss_desk.specs.{declared.recording.FileError.FileError, declared.recording.LocalJournal.LocalJournal, declared.recording.PendingRecovery.PendingRecovery, declared.rolls.NotedOperators.NotedOperators, OpenedFor.load_world, OpenedFor.IsSound}
+use Rattle.desk_host.specs.{declared.folders.JournalFile.JournalFile, declared.folders.JournalError.JournalError, Operators.CanContinue, Operators.failure_of, Operators.next_number}
+use Rattle.uss_desk.specs.{declared.recording.PendingRecovery.PendingRecovery, declared.rolls.NotedOperators.NotedOperators, OpenedFor.load_world, OpenedFor.IsSound}
 use Rattle.desk_recording.specs.{declared.tail.Tail.Tail, declared.tail.TailEnd.TailEnd, declared.tail.TailEnd.TheVariants.End, declared.tail.TailEnd.TheVariants.Short, declared.tail.TailEnd.TheVariants.Damaged, Recovering.Recovers, Recovering.Undone, Recovering.missing_enrolments, Recovering.undone, Tail.unanswered_in, Inputs.InputOutside, Inputs.IsPlayRecorded, Inputs.IsRecordedKept, Inputs.IsUnrecorded}
-
--- the number of a folder's last journal and its size in bytes, each 0 if there is none
-abbrev pub extent_of : Option JournalFile → ℕ × ℕ
-extent_of None = (0, 0)
-extent_of (Some found) = (found.number, found.len)
-
--- the result of something done in the journal folder, with an error code: `Memory`, or `Write` for a cause
-abbrev pub failure_of : {V : Type 0} → Result V JournalError → Result V ErrorCode
-failure_of (Ok v) = Ok v
-failure_of (Err unkept.Memory) = Err failure.Memory
-failure_of (Err (unkept.Cause cause)) = Err failure.Write
 
 -- the result for a desk in memory, which continues no journal, by the command and by whether the folder has
 -- journals: nothing to recover for `play` in a folder without any; `Write` for `play` in another; else
@@ -42,19 +29,6 @@ BeginsAlone _ _ result = result ≡ Err failure.Store
 -- a journal needs no recovery: it ends with a whole entry, its last request is answered, no enrolment follows
 abbrev pub HasNothingPending : Tail → TailEnd → Type 0
 HasNothingPending tail ended = (ended ≡ End) × (tail.asked ≡ None) × (tail.operators.items ≡ [])
-
--- the number of the next journal; the error `Write` if 64 bits don't hold it
-abbrev pub next_number : ℕ → Result ℕ ErrorCode
-next_number number = if nat_lt (number + 1) (2 ^ 64) then Ok (number + 1) else Err failure.Write
-
--- why a journal can't be continued, or none if it can: by the number in its name, the number in its first
--- entry, if that is whole, and what follows its last whole entry
-abbrev pub cause_of_tail : ℕ → Option ℕ → TailEnd → Option (List ℕ)
-cause_of_tail number None End = Some (codes "its last record is empty")
-cause_of_tail number None Short = Some (codes "its last record is damaged")
-cause_of_tail number begun Damaged = Some (codes "its last record is damaged")
-cause_of_tail number (Some begun) ended =
-    if begun == number then None else Some (codes "its last record has another number")
 
 -- ==== Why a journal folder can't be used, and why a database file is refused for its WAL
 -- the error code of a journal folder that can't be read, written or continued (`Write`), or `Memory`
@@ -69,27 +43,11 @@ IsClockOrFolderFailure f = (f ≡ failure.Clock) ⊎ IsFolderFailure f
 abbrev pub IsStoreOrFolderFailure : ErrorCode → Type 0
 IsStoreOrFolderFailure f = (f ≡ failure.Store) ⊎ IsFolderFailure f
 
--- the result is what was read of a journal, if there is no cause against continuing it; else that cause
-abbrev pub ContinuesUnless : Option (List ℕ) → Tail × TailEnd → Result (Tail × TailEnd) JournalError → Type 0
-ContinuesUnless None read result = result ≡ Ok read
-ContinuesUnless (Some cause) read (Ok other) = ⊥
-ContinuesUnless (Some cause) read (Err why) = journal_error_text why ≡ Some cause
-
--- there is no cause against continuing the journal with this number in its name
-abbrev pub CanContinue : ℕ → Tail → TailEnd → Type 0
-CanContinue number tail ended = cause_of_tail number tail.record ended ≡ None
-
 -- the recovery is for the database file; this last journal asks for that recovery, and can be continued
 pub record IsPendingAt (file : List ℕ) (last : JournalFile) (left : PendingRecovery) : Type 0 where
   pub at : left.file.now ≡ file
   pub of : left.record ≡ last
   pub may : CanContinue last.number left.tail left.ended
-
--- the result of a write or a sync of a journal is returned; an error is noted as reported
-abbrev pub ReportsFirstError : Result ⊤ Error → LocalJournal → LocalJournal → Result ⊤ FileError → Type 0
-ReportsFirstError (Ok done) old new result = (result ≡ Ok (tt {0})) × (new ≡ old)
-ReportsFirstError (Err e) old new result =
-    (result ≡ Err (record { error = e })) × (new ≡ record old { is_reported = true })
 
 -- the error code of a file that is refused for its WAL: `DamagedLog`, but not for a command that copies the
 -- file; `Memory`; or `Store`, if the WAL can't be read or exists without its file
@@ -156,8 +114,8 @@ module _ {S : Type 0} (g : Ghosts S) (play : PlayArgs) (o : InputOutside) where
       × (doubt (state g desk.store.held).is_clean ≤ doubt (state g left.store.held).is_clean)
       × ((state g desk.store.held).IsShielded → (state g left.store.held).IsShielded))
 
-  -- and what the next start may find afterwards, if it could find only the desk's content before and the disk
-  -- has returned what was written
+  -- there is a desk afterwards (left); what the next start may find is as `IsRecordedKept` says, if it could
+  -- find only the desk's content before and the disk has returned what was written
   abbrev pub IsInputKeptAt : Option (Parts (Shown S)) → Parts (Shown S) → Type 0
   IsInputKeptAt left begun = IsSomeAnd left (λ desk.
       IsSound g desk → LeavesOnly begun.store.world (MayLeave g begun.store.held)

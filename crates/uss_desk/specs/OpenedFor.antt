@@ -47,7 +47,7 @@ module _ {D : Type 0} (g : disk.Ghosts D) (image : Image) where
   abbrev pub FailsAt : OpenError D g → Type 0
   FailsAt = FailsOver (λ files. AreRefused image files.fault files.connection)
 
-  -- the same of files whose plans of schema 1 are to be migrated
+  -- the error is that of files whose plans of schema 1 can't be migrated; or they were not opened
   abbrev pub FailsMovingAt : OpenError D g → Type 0
   FailsMovingAt = FailsOver (λ files. AreNotMoved image files.fault files.connection)
 
@@ -136,7 +136,7 @@ IsDoneAt g line o left desk = IsSomeAnd left (λ left.
     × (doubt (state g desk.store.held).is_clean ≤ doubt (state g left.store.held).is_clean)
     × ((state g desk.store.held).IsShielded → (state g left.store.held).IsShielded))
 
--- and what the next start may find afterwards
+-- there is a desk afterwards (left), and what the next start may find is as `IsKeptSince` says
 abbrev pub IsKeptAt :
     {S : Type 0} → Ghosts S → Line → Outside → Option (Parts (Shown S)) → Parts (Shown S) → Type 0
 IsKeptAt g line o left desk = IsSomeAnd left (IsKeptSince g line o desk)

@@ -20,7 +20,7 @@ use std::io::Write;
 
 /// Runs the command `migrate` on a database of schema 1: puts the tables in canonical order if they are in
 /// another, migrates the plans, prints how many they are, closes the desk, and returns the exit status. Later
-/// errors are in that status. The contract assumes nothing about the content of files.
+/// errors are in that status. The contract gives only the error codes.
 ///
 /// # Errors
 ///
@@ -31,8 +31,8 @@ pub fn migrate_here(host: LocalHost<'_>, database: &Database) -> Result<u8, Erro
     ensures { IfErr result (λ f. IsLogRefused false f ⊎ IsOpenFailure f) }
 {
     let mut errors = host.errors();
-    check_before(host.rt, database, false, &mut errors)?;
-    let paths = paths_at(host.rt, database)?;
+    check_before(host, database, false, &mut errors)?;
+    let paths = paths_at(host, database)?;
     reorder_for(host, database, true)?;
     let moved = open_old(host, database, Unknown, paths);
     report_refusal(host, database, false, &moved, &mut errors);

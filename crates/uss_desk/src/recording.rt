@@ -2,14 +2,14 @@
 //! the next journal is begun. No contract says what the operating system did. In reports a journal is called
 //! "record".
 
-ghost use Rattle.std.specs.Prelude.{◌≡◌, ◌⊎◌, ◌++◌, ◌↔◌, false, true, IfErr, IfOk, IfSome, IsSome, IsTrue, None, Ok, OnErr, OnOk, Some, option_map};
+ghost use Rattle.std.specs.Prelude.{◌≡◌, ◌⊎◌, ◌++◌, ◌↔◌, false, true, IfErr, IfOk, IfSome, IsSome, IsTrue, None, Ok, OnErr, OnOk, Some};
 ghost use Rattle.std.specs.Option.{IsSomeAnd, is_some};
 ghost use Rattle.sqlite.specs.Files.{over_files};
 ghost use Rattle.desk_cli.specs.Lines.{line_of};
+ghost use Rattle.desk_host.specs.Operators.{failure_of};
 ghost use Rattle.uss_desk.specs.FilesLeft as files;
 ghost use Rattle.uss_desk.specs.{FilesLeft.FailsClosed, OpenedFor.AreReadsTested, OpenedFor.RemembersDesk, OpenedFor.HasNoted, OpenedFor.HasNotedDesk};
-ghost use Rattle.uss_desk.specs.Finishing.{Finishes, IsDone, IsNumbered, IsUnfinished, KeepsAlone, pending_at, BeginsAlone, HasNothingPending, ContinuesUnless, ReportsFirstError, CanContinue, IsPendingAt, IsFolderFailure, IsClockOrFolderFailure, IsStoreOrFolderFailure};
-ghost use Rattle.uss_desk.specs.Finishing as spec;
+ghost use Rattle.uss_desk.specs.Finishing.{Finishes, IsDone, IsNumbered, IsUnfinished, KeepsAlone, pending_at, BeginsAlone, HasNothingPending, IsPendingAt, IsFolderFailure, IsClockOrFolderFailure, IsStoreOrFolderFailure};
 
 use crate::closing::close_after;
 use crate::opening::{DeskAt, opened_anew};
@@ -17,78 +17,20 @@ use crate::rolls::NotedOperators;
 use crate::watching::CloseReport;
 use desk_cli::{DeskArgs, DeskCommand, Enrolment, ErrorCode, ExitReport};
 use desk_host::folders::{
-    JournalError, JournalFile, last_journal, make_part, move_rest, name_part, tail_of,
+    JournalError, JournalFile, check_empty, check_unchanged, extent_of, last_journal, move_rest,
+    name_part, next_number, read_last,
 };
+use desk_host::journal_file::{LocalJournal, second_now};
 use desk_recording::{
-    AppendError, Exchange, Journal, Record, Tail, TailEnd, WrittenRecord, missing_enrolments,
-    recover, write_header,
+    Exchange, Record, Tail, TailEnd, WrittenRecord, missing_enrolments, recover, write_header,
 };
 use desk_rules::terms::Terms;
-use host_files::files::LocalHost;
-use host_files::naming::IN_USE;
+use host_files::files::{HostFiles, LocalHost};
 use host_files::paths::OpenPaths;
 use host_files::reporting::report_text;
 use io_ends::Moment;
 use sqlite_disk::Disk;
 use std::alloc::AllocError;
-use std::fs::{self, File};
-use std::io::{self, Write};
-use std::time::SystemTime;
-
-/// The file of a journal in `folder`. The first failed write is reported on the standard error.
-#[derive(Drop)]
-pub struct LocalJournal<'s> {
-    host: LocalHost<'s>,
-    folder: &'s str,
-    file: File,
-    // whether a failed write was reported
-    is_reported: bool,
-}
-
-/// An error of writing a journal, which was reported.
-#[derive(Drop)]
-pub struct FileError {
-    error: io::Error,
-}
-
-impl LocalJournal<'_> {
-    // Returns `done`, the result of writing the journal. If it is an error, and the first one, it is
-    // reported. A failed write of the report and running out of memory are ignored.
-    fn report_error(&mut self, done: io::Result<()>) -> Result<(), FileError>
-        ensures { ReportsFirstError done self.old self.new result }
-    {
-        let Err(error) = done else {
-            return Ok(());
-        };
-        if !self.is_reported {
-            self.is_reported = true;
-            let text = "the record can't be written";
-            report_text(
-                self.host.alloc(),
-                self.folder,
-                text,
-                &mut self.host.errors(),
-            );
-        }
-        Err(FileError { error })
-    }
-}
-
-impl Journal for LocalJournal<'_> {
-    type Fault = FileError;
-
-    // Appends `bytes` to the file. The first error is reported.
-    fn append(&mut self, bytes: &[u8]) -> Result<(), FileError> {
-        let done = self.file.write_all(bytes);
-        self.report_error(done)
-    }
-
-    // Flushes the file's data to the disk. The first error is reported.
-    fn sync(&mut self) -> Result<(), FileError> {
-        let done = self.file.sync_data();
-        self.report_error(done)
-    }
-}
 
 /// The journal of a command, which gets its requests and answers.
 pub type LocalRecord<'s> = WrittenRecord<LocalJournal<'s>>;
@@ -124,8 +66,10 @@ struct PendingRecovery<'s> {
 ///
 /// # Errors
 ///
-/// `Store` if the database is in memory, or its file is missing; `Write` if the folder can't be read, or its
-/// last journal can't be continued; `Memory`. The cause is reported, unless memory ran out.
+/// `Store` if the folder has a journal and the database file can't be reached, or if the database is in
+/// memory and the command isn't `play`; `Write` if the folder can't be read, or its last journal can't be
+/// continued (in memory, none can); `Memory`. The cause is reported on the standard error, unless memory ran
+/// out.
 pub fn folder_for<'s>(
     host: LocalHost<'s>,
     words: &'s DeskArgs,
@@ -139,11 +83,11 @@ pub fn folder_for<'s>(
     let Some(path) = words.folder.as_deref() else {
         return Ok(None);
     };
-    let last = or_report(host, path, last_journal(host.rt, path))?;
+    let last = or_report(host, path, last_journal(host, path))?;
     let (number, len) = extent_of(&last);
     let undone = match words.database.path() {
         Some(file) => recovery_at(host, path, file, last)?,
-        None => recovery_in_memory(host, path, action, last.is_some())?,
+        None => recovery_in_memory(host, path, action, &last)?,
     };
     Ok(Some(JournalFolder {
         host,
@@ -155,39 +99,29 @@ pub fn folder_for<'s>(
     }))
 }
 
-// The number and the size in bytes of the last journal of a folder; both are 0 if there is none.
-fn extent_of(last: &Option<JournalFile>) -> (u64, u64)
-    ensures { result ≡ spec.extent_of last.now }
-{
-    match last {
-        Some(record) => (record.number, record.len),
-        None => (0, 0),
-    }
-}
-
 // The pending recovery of a desk in memory: none, since such a desk continues no journal. For `play` the error
-// is `Write` if the folder has journals (`has_records`). For any other command it is `Store`, since a desk in
+// is `Write` if the folder has a `last` journal. For any other command it is `Store`, since a desk in
 // memory has no journal there. The cause is reported.
 fn recovery_in_memory<'s>(
     host: LocalHost<'_>,
     folder: &str,
     action: DeskCommand<'_>,
-    has_records: bool,
+    last: &Option<JournalFile>,
 ) -> Result<Option<PendingRecovery<'s>>, ErrorCode>
-    ensures { BeginsAlone (line_of action.entry) has_records result }
+    ensures { BeginsAlone (line_of action.entry) (is_some last.now) result }
 {
     match action {
-        DeskCommand::Play(_) if has_records => {
-            let cause = JournalError::Cause("records of another desk");
-            or_report(host, folder, Err(cause))
+        DeskCommand::Play(_) => {
+            or_report(host, folder, check_empty(last))?;
+            Ok(None)
         }
-        DeskCommand::Play(_) => Ok(None),
         _ => Err(report_store_failure(host, folder, "a record needs a database in a file")),
     }
 }
 
-// The recovery that the `last` journal of a folder asks for at the database file `file`, if any. If there is
-// a journal and the file doesn't exist, or the journal can't be continued, the cause is reported.
+// The recovery that the `last` journal of a folder asks for at the database file `file`, if any. `None` if
+// there is no journal. If there is one, and the file can't be reached (`Store`) or the journal can't be
+// continued (`Write`), the cause is reported.
 fn recovery_at<'s>(
     host: LocalHost<'_>,
     folder: &str,
@@ -202,7 +136,7 @@ fn recovery_at<'s>(
     let Some(record) = last else {
         return Ok(None);
     };
-    if !matches!(fs::exists(host.rt, file), Ok(true)) {
+    if host.find(file).is_err() {
         return Err(report_store_failure(host, file, "no such file, and there are records of it"));
     }
     let (tail, ended) = or_report(host, folder, read_last(host, &record))?;
@@ -222,40 +156,6 @@ fn recovery_if_any(left: PendingRecovery<'_>) -> Option<PendingRecovery<'_>>
     (!is_complete(&left.tail, left.ended)).then_some(left)
 }
 
-// What the last journal says, and what follows its last whole entry; or why the journal can't be continued.
-fn read_last(host: LocalHost<'_>, last: &JournalFile) -> Result<(Tail, TailEnd), JournalError>
-    ensures { IfOk result (λ read. CanContinue last.now.number read.0 read.1) }
-{
-    let (tail, ended) = tail_of(host.rt, last)?;
-    check_tail(last.number, tail, ended)
-}
-
-// The journal's `tail` and what follows it (`ended`); or why the journal can't be continued, of which
-// `number` is the number in the file name.
-fn check_tail(number: u64, tail: Tail, ended: TailEnd) -> Result<(Tail, TailEnd), JournalError>
-    ensures { ContinuesUnless (spec.cause_of_tail number tail.record ended) (tail, ended) result }
-{
-    match cause_of_tail(number, tail.record, ended) {
-        Some(cause) => Err(JournalError::Cause(cause)),
-        None => Ok((tail, ended)),
-    }
-}
-
-// Why a journal can't be continued, or `None` if it can: by the `number` in its file name, the number in its
-// first entry, if that is whole (`first_number`), and what follows its last whole entry (`ended`).
-fn cause_of_tail(number: u64, first_number: Option<u64>, ended: TailEnd) -> Option<&'static str>
-    ensures { option_map (λ cause. cause.now) result ≡ spec.cause_of_tail number first_number ended }
-{
-    match (first_number, ended) {
-        (None, TailEnd::End) => Some("its last record is empty"),
-        (_, TailEnd::Damaged) | (None, TailEnd::Short) => Some("its last record is damaged"),
-        (Some(first_number), _) if first_number != number => Some(
-            "its last record has another number",
-        ),
-        (Some(_), _) => None,
-    }
-}
-
 // Whether a journal leaves nothing to recover: it ends with a whole entry, its last request is answered, and
 // no enrolment follows that request.
 fn is_complete(tail: &Tail, ended: TailEnd) -> bool
@@ -272,21 +172,17 @@ fn or_report<T: Drop>(
     folder: &str,
     done: Result<T, JournalError>,
 ) -> Result<T, ErrorCode>
-    ensures converted { result ≡ spec.failure_of done }
+    ensures converted { result ≡ failure_of done }
     ensures fault { IfErr result IsFolderFailure }
 {
-    match done {
-        Ok(value) => Ok(value),
-        Err(JournalError::Memory) => Err(ErrorCode::Memory),
-        Err(JournalError::Cause(cause)) => {
-            report_text(host.alloc(), folder, cause, &mut host.errors());
-            Err(ErrorCode::Write)
-        }
+    if let Err(JournalError::Cause(cause)) = &done {
+        report_text(host.alloc(), folder, cause.text(), &mut host.errors());
     }
+    Ok(done?)
 }
 
-// Reports the cause for the file at `path`, and returns the error code `Store`. A failed write and running
-// out of memory are ignored.
+// Reports the cause for the file at `path` on the standard error, and returns the error code `Store`, which
+// alone the contract gives. A failed write and running out of memory are ignored.
 fn report_store_failure(host: LocalHost<'_>, path: &str, cause: &str) -> ErrorCode
     ensures { result ≡ ErrorCode.Store }
 {
@@ -331,9 +227,9 @@ impl<'s> JournalFolder<'s> {
         }
     }
 
-    // Recovers at a desk what the last journal left pending (`undone`). A truncated entry is moved out of
-    // that journal first. `roll` has the operators of the desk. A repeated request is written to the next
-    // journal.
+    // Recovers at a desk what the last journal left pending (`undone`). First it is checked that the folder
+    // is unchanged, and a truncated entry is moved out of that journal. `roll` has the operators of the desk;
+    // the error is `Memory` if memory ran out for them. A repeated request is written to the next journal.
     fn recover<D: Disk + Drop, N: OpenPaths + Drop>(
         &mut self,
         undone: PendingRecovery<'_>,
@@ -356,13 +252,13 @@ impl<'s> JournalFolder<'s> {
             ..
         } = undone;
         if ended == TailEnd::Short {
-            or_report(host, path, move_rest(host.rt, &record, tail.size))?;
+            or_report(host, path, move_rest(host, &record, tail.size))?;
         }
         let Some(operators) = roll.take() else {
             return Err(ErrorCode::Memory);
         };
         let missing = missing_enrolments(host.alloc(), &operators, &tail.operators)?;
-        let number = next_number(host, path, self.number)?;
+        let number = or_report(host, path, next_number(self.number))?;
         let mut journal = LocalRecoveryJournal {
             host,
             folder: path,
@@ -392,18 +288,18 @@ impl<'s> JournalFolder<'s> {
         if self.is_held {
             return Ok(());
         }
-        let (host, path) = (self.host, self.path);
-        let (number, len) = extent_of(&or_report(host, path, last_journal(host.rt, path))?);
-        if number != self.number || len != self.len {
-            report_text(host.alloc(), path, IN_USE, &mut host.errors());
-            return Err(ErrorCode::Write);
-        }
+        let extent = (self.number, self.len);
+        or_report(
+            self.host,
+            self.path,
+            check_unchanged(self.host, self.path, extent),
+        )?;
         self.is_held = true;
         Ok(())
     }
 
-    /// Begins the journal of a command, if its desk is open (`is_open`): with the settings `terms`, the
-    /// operators in `roll`, and those that the command enrols (`enrolments`).
+    /// Begins the journal of a command, if its desk is open (`is_open`; else `None`): with the settings
+    /// `terms`, the operators in `roll`, and those that the command enrols (`enrolments`).
     ///
     /// # Errors
     ///
@@ -427,7 +323,7 @@ impl<'s> JournalFolder<'s> {
     }
 
     // Begins the journal of a command at its open desk, as `begin_if` does. The journal gets its final name
-    // once these entries are on the disk.
+    // once its first entries are on the disk.
     fn begin(
         mut self,
         terms: &Terms,
@@ -441,11 +337,11 @@ impl<'s> JournalFolder<'s> {
         let Some(operators) = roll.take() else {
             return Err(ErrorCode::Memory);
         };
-        let number = next_number(host, path, self.number)?;
+        let number = or_report(host, path, next_number(self.number))?;
         let operators = joined(operators, enrolments)?;
         let journal = begin_part(host, path, number, terms, &operators)?;
         let second = second_now(host)?;
-        or_report(host, path, name_part(host.rt, path, number, second))?;
+        or_report(host, path, name_part(host, path, number, second))?;
         Ok(WrittenRecord::new(host.alloc(), journal))
     }
 }
@@ -479,17 +375,6 @@ fn is_closed<D: Disk + Drop, E>(ended: (ExitReport<E>, Option<CloseReport<D>>)) 
     }
 }
 
-// The number of the journal after the one with `number`; the error `Write`, which is reported, if 64 bits
-// don't hold it.
-fn next_number(host: LocalHost<'_>, folder: &str, number: u64) -> Result<u64, ErrorCode>
-    ensures { result ≡ spec.next_number number }
-{
-    match number.checked_add(1) {
-        Some(next) => Ok(next),
-        None => or_report(host, folder, Err(JournalError::Cause("no number is left"))),
-    }
-}
-
 // `operators` followed by `others`. Fails if memory runs out.
 fn joined(mut operators: Vec<Enrolment>, others: &[Enrolment]) -> Result<Vec<Enrolment>, AllocError>
     ensures { IfOk result (λ all. all.items ≡ operators.items ++ others.now) }
@@ -510,32 +395,26 @@ fn begin_part<'s>(
 ) -> Result<LocalJournal<'s>, ErrorCode>
     ensures { IfErr result IsFolderFailure }
 {
-    let mut journal = LocalJournal {
-        host,
-        folder,
-        file: or_report(host, folder, make_part(host.rt, folder, number))?,
-        is_reported: false,
-    };
-    match write_header(host.alloc(), &mut journal, number, terms, operators) {
-        Ok(()) => Ok(journal),
-        Err(AppendError::OutOfMemory) => Err(ErrorCode::Memory),
-        Err(AppendError::Journal(_)) => Err(ErrorCode::Write),
+    let mut journal = or_report(host, folder, LocalJournal::make(host, folder, number))?;
+    write_header(host.alloc(), &mut journal, number, terms, operators)?;
+    Ok(journal)
+}
+
+// Why a repeated request, or its answer, can't be recorded. If a file is the cause, that was reported.
+#[derive(Drop)]
+struct RepeatError {
+    failure: ErrorCode,
+}
+
+impl From<ErrorCode> for RepeatError {
+    ghost use Rattle.std.specs.Prelude.{◌≡◌};
+
+    ghost from_gives = { λ failure error. error.failure ≡ failure };
+
+    fn from(failure: ErrorCode) -> RepeatError {
+        RepeatError { failure }
     }
 }
-
-// The present Unix second; the error `Clock` if the clock can't be read or is before 1970.
-fn second_now(host: LocalHost<'_>) -> Result<u64, ErrorCode>
-    ensures { IfErr result (λ f. f ≡ ErrorCode.Clock) }
-{
-    let now = SystemTime::now(host.rt).map_err(|_| ErrorCode::Clock)?;
-    let since = now.duration_since(SystemTime::UNIX_EPOCH);
-    Ok(since.map_err(|_| ErrorCode::Clock)?.as_secs())
-}
-
-// The error that a repeated request, or its answer, can't be recorded. If a file is the cause, that was
-// reported.
-#[derive(Drop)]
-struct RecordError;
 
 // The journal of a request that recovery repeats. It gets its final name once the request is in it.
 #[derive(Drop)]
@@ -565,45 +444,47 @@ impl<'s> LocalRecoveryJournal<'s> {
             &self.operators,
         )?;
         let mut record = WrittenRecord::new(self.host.alloc(), journal);
-        if record.append_request(moment, bytes).is_err() {
-            return Err(ErrorCode::Write);
-        }
+        record.append_request(moment, bytes)?;
         let second = second_now(self.host)?;
         or_report(
             self.host,
             self.folder,
-            name_part(self.host.rt, self.folder, self.number, second),
+            name_part(self.host, self.folder, self.number, second),
         )?;
         Ok(record)
     }
+
+    // Appends the answer to the journal's only request, and flushes it. `NoRecord` if no request was appended.
+    fn append_last(&mut self, connection: Exchange<'_>) -> Result<(), ErrorCode>
+        ensures { IfErr result (λ f. (f ≡ ErrorCode.NoRecord) ⊎ IsFolderFailure f) }
+    {
+        let Some(record) = &mut self.record else {
+            return Err(ErrorCode::NoRecord);
+        };
+        record.append_answer(connection)?;
+        Ok(record.sync()?)
+    }
 }
 
+// Its steps and its text are not known (`steps` and `noted` are None), so the trait's clauses promise nothing
+// of these bodies.
 impl Record for LocalRecoveryJournal<'_> {
-    type Fault = RecordError;
+    type Fault = RepeatError;
 
-    // Never called: a recovery brings no new enrolments.
-    fn append_new_enrolments(&mut self, _news: &[Enrolment]) -> Result<(), RecordError> {
-        Err(RecordError)
+    // Never called, since a recovery brings no new enrolments; it fails.
+    fn append_new_enrolments(&mut self, _news: &[Enrolment]) -> Result<(), RepeatError> {
+        Err(RepeatError::from(ErrorCode::NoRecord))
     }
 
-    // Makes the journal with the request in it.
-    fn append_request(&mut self, moment: Moment, bytes: &[u8]) -> Result<(), RecordError> {
-        self.record = self.begin(moment, bytes).ok();
-        match self.record {
-            Some(_) => Ok(()),
-            None => Err(RecordError),
-        }
+    // Makes the journal with the request in it, under its final name.
+    fn append_request(&mut self, moment: Moment, bytes: &[u8]) -> Result<(), RepeatError> {
+        self.record = Some(self.begin(moment, bytes)?);
+        Ok(())
     }
 
     // Appends the answer and flushes it: no request follows that would flush it.
-    fn append_answer(&mut self, connection: Exchange<'_>) -> Result<(), RecordError> {
-        let Some(record) = &mut self.record else {
-            return Err(RecordError);
-        };
-        if record.append_answer(connection).is_ok() && record.sync().is_ok() {
-            return Ok(());
-        }
-        Err(RecordError)
+    fn append_answer(&mut self, connection: Exchange<'_>) -> Result<(), RepeatError> {
+        Ok(self.append_last(connection)?)
     }
 
     // Writes nothing: a journal has no entry for a lost answer.

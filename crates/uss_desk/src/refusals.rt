@@ -11,9 +11,9 @@ use host_files::files::LocalHost;
 use sqlite::Start;
 use std::io::Write;
 
-/// Reports why the files of a database can't be opened, if `opened` is an error: for a command that makes a
-/// missing file (`is_made`), or for one that needs the file to exist. A failed write and running out of
-/// memory are ignored.
+/// Reports to `errors` why the files of a database can't be opened, if `opened` is an error: for a command
+/// that makes a missing file (`is_made`), or for one that needs the file to exist. A failed write and running
+/// out of memory are ignored.
 #[tactic(auto, using(host_files::proofs::lemmas::Reporting::reports_nothing))]
 pub fn report_refusal<T, F: Start, E: Write>(
     host: LocalHost<'_>,

@@ -22,7 +22,7 @@ use std::alloc::Global;
 use std::io::{BufReader, Read, Write};
 
 /// Runs the command `replay` with its arguments `words`: plays the journal of the standard input at the desk,
-/// closes the desk, and returns the exit status. The contract assumes nothing about the content of files.
+/// closes the desk, and returns the exit status. The contract gives only the error codes.
 ///
 /// # Errors
 ///
@@ -32,11 +32,11 @@ pub fn replay_here(host: LocalHost<'_>, words: &ReplayArgs) -> Result<u8, ErrorC
     ensures { IfErr result (IsLogRefused false) }
 {
     let (mut output, mut errors) = (host.output(), host.errors());
-    check_before(host.rt, &words.database, false, &mut errors)?;
+    check_before(host, &words.database, false, &mut errors)?;
     let Ok(mut input) = BufReader::new(host.alloc(), host.input()) else {
         return Err(ErrorCode::Memory);
     };
-    let paths = paths_at(host.rt, &words.database)?;
+    let paths = paths_at(host, &words.database)?;
     let (alloc, until) = (host.alloc(), words.until);
     let mut roll = NotedOperators::new(alloc, &words.database, false);
     match open_database(host, &words.database, Unknown, paths, &mut roll) {

@@ -82,7 +82,7 @@ fn has_none(operators: &Option<Vec<Enrolment>>) -> bool
     }
 }
 
-// The operators of a store with their ceilings, in its order. Fails if memory runs out.
+// The operators of a store with their ceilings, in its order, if storage is intact. Fails if memory runs out.
 fn operators_of<D: Disk + Drop>(
     store: &SqliteStore<FileStore<D>>,
 ) -> Result<Vec<Enrolment>, AllocError>

@@ -53,7 +53,8 @@ impl<'s> Session<'s> {
     // Prepares the command `action` with its arguments `words` and the `enrolments` that it makes first, and
     // the paths of its database: checks the WAL and the file of enrolments, puts the tables in canonical
     // order, and reads the end of the last journal. The desk isn't opened yet. If that fails, the cause is
-    // reported, unless memory ran out.
+    // reported on the standard error, unless memory ran out or the WAL can't be read. The contract says only
+    // what the session has.
     fn prepare(
         host: LocalHost<'s>,
         words: &'s DeskArgs,
@@ -62,12 +63,12 @@ impl<'s> Session<'s> {
     ) -> Result<(Session<'s>, LocalOpenPaths<'s>), ErrorCode>
         ensures { IfOk result (λ it. IsPrepared words.entry.now enrolments.entry.now it.0 it.1) }
     {
-        check_before(host.rt, &words.database, false, &mut host.errors())?;
+        check_before(host, &words.database, false, &mut host.errors())?;
         let Ok(input) = BufReader::new(host.alloc(), host.input()) else {
             return Err(ErrorCode::Memory);
         };
-        let enrolment_file = operators_of(host.rt, host, words.operators.as_deref())?;
-        let paths = paths_at(host.rt, &words.database)?;
+        let enrolment_file = operators_of(host, host, words.operators.as_deref())?;
+        let paths = paths_at(host, &words.database)?;
         reorder_for(host, &words.database, false)?;
         let folder = folder_for(host, words, action)?;
         let roll = NotedOperators::new(host.alloc(), &words.database, folder.is_some());
@@ -141,7 +142,7 @@ impl<'s> Session<'s> {
     // Runs the command `action` at the desk that was opened for it, and returns the exit status with the
     // desk, if there is one. If the command keeps a journal, each request of its input or port is recorded.
     // If the journal can't be begun, the command doesn't run. An error code is printed; a failed write of it
-    // is ignored.
+    // is ignored. The contract has only a premise: those of `play_line` and `run_line` say what is done.
     fn run<D: Disk + Drop, N: OpenPaths + Drop>(
         self,
         action: DeskCommand<'_>,
@@ -199,7 +200,7 @@ fn enrols_none(words: &DeskArgs, enrolments: &[Enrolment]) -> bool
 /// Runs the command `action`, with the arguments `words` and the operators that it enrols first
 /// (`enrolments`). It runs at its desk with the standard streams, the network and the clock. Tables in a
 /// non-canonical order are reordered first. Then the desk is closed, and the exit status returned. The
-/// contract assumes nothing about the content of files.
+/// contract has only a premise, that the arguments are valid; those of its parts say what they do.
 ///
 /// # Errors
 ///
