@@ -103,8 +103,8 @@ face_text frame =
     ++ (decimal frame.height ++ codes "\"/>\n")))
 
 -- the text before the grid
-abbrev pub head_text : Frame → RectParts → List ℕ
-head_text frame rect = opening_text (sum64 (pixel_height_of frame) LEGEND_HEIGHT)
+abbrev pub picture_start : Frame → RectParts → List ℕ
+picture_start frame rect = opening_text (sum64 (pixel_height_of frame) LEGEND_HEIGHT)
     ++ (title_text rect ++ (STYLE.now ++ (part_start frame ++ face_text frame)))
 
 -- the path of a vertical line at `x`, and of a horizontal line at `y`
@@ -195,14 +195,14 @@ legend_start frame =
     ++ codes ")\" stroke-width=\"2\">\n")
 
 -- the text after the curve: the end of the face, and the legend
-abbrev pub tail_text : Frame → List ℕ
-tail_text frame = legend_start frame ++ (LEGEND.now ++ codes "</g>\n</svg>\n")
+abbrev pub picture_end : Frame → List ℕ
+picture_end frame = legend_start frame ++ (LEGEND.now ++ codes "</g>\n</svg>\n")
 
 -- the whole text of a picture
 abbrev pub picture_text : Frame → RectParts → List ℕ → List ℕ
 picture_text frame rect ids =
-    head_text frame rect ++ (grid_text frame ++ (cells_text frame ids ++ (requested_rectangle_text frame rect
-    ++ (curve_text frame ids ++ tail_text frame))))
+    picture_start frame rect ++ (grid_text frame ++ (cells_text frame ids
+    ++ (requested_rectangle_text frame rect ++ (curve_text frame ids ++ picture_end frame))))
 
 -- a text is the picture of a rectangle and of these cells
 abbrev pub IsPicture : RectParts → List ℕ → List ℕ → Type 0

@@ -56,7 +56,7 @@ pub fn picture_of(alloc: Global, rect: &Rect, cells: &[CellId]) -> Result<String
 // The text before the grid: the start of the SVG, its title and style, and the start of the nested SVG with
 // the background of the face. The SVG is as high as the face and the legend.
 fn picture_start(alloc: Global, frame: &Frame, rect: &Rect) -> Result<String, AllocError>
-    ensures { IfOk result (λ text. string_bytes text ≡ spec.head_text frame.now rect.now) }
+    ensures { IfOk result (λ text. string_bytes text ≡ spec.picture_start frame.now rect.now) }
 {
     let mut text = svg_start(alloc, frame.pixel_height().saturating_add(LEGEND_HEIGHT))?;
     text.push_str(&title(alloc, rect)?)?;
@@ -114,7 +114,7 @@ fn title(alloc: Global, rect: &Rect) -> Result<String, AllocError>
 // The text after the curve: the end of the face, and the legend. The legend is outside of the nested SVG,
 // since browsers don't draw text at the scale of leaves.
 fn picture_end(alloc: Global, frame: &Frame) -> Result<String, AllocError>
-    ensures { IfOk result (λ text. string_bytes text ≡ spec.tail_text frame.now) }
+    ensures { IfOk result (λ text. string_bytes text ≡ spec.picture_end frame.now) }
 {
     let tall = frame.pixel_height();
     let mut text = format!(in alloc;

@@ -100,7 +100,9 @@ abbrev pub order_text : List ℕ
 order_text = codes "its tables stand in another order than a desk's: copy makes a desk of it"
 
 -- ---- the rows of a page
--- a file's first page: it has room for the schema's tables and indexes, and no page is longer
+-- a page may by its length be a file's first page; nothing is said of its bytes. It has 136 bytes or more:
+-- 100 of the file's header, 8 of the page header, and 2 for the slot of each of the schema's 14 tables and
+-- indexes. It has 65,536 or fewer, as any page
 pub record IsFirstPage (page : List ℕ) : Type 0 where
   pub room : 136 ≤ length page
   pub fits : length page ≤ 65536

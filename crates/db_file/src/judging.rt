@@ -40,6 +40,8 @@ impl<R> From<ReadError<R>> for WalError {
 
     ghost from_gives = { λ error fault. fault ≡ Unread error.reads };
 
+    // Reading was given up: this becomes `Unread`, with the reads that `error` has. `Endless` is made
+    // elsewhere.
     fn from(error: ReadError<R>) -> WalError {
         WalError::Unread(error.reads())
     }

@@ -323,7 +323,12 @@ pub fn order_page(page: &mut [u8])
     }
 }
 
-// Reads the first page of a file into `page`, and reorders its rows as `order_page` does.
+// Reads the first page of a file into `page`, as many bytes as `page` has, and reorders its rows as
+// `order_page` does. The error is that of the read that failed, also if the file ends inside the page.
+//
+// Two clauses are for `copy_in_order`, which copies `page` and then the rest of `file`. `whole`: these two
+// together are the whole file with its first page reordered. `size`: that is as long as the file that was
+// read, so the length that the caller names is right for it too.
 fn read_in_order<R: Read>(file: &mut R, page: &mut [u8]) -> io::Result<()>
     requires { IsFirstPage page.old }
     ensures length { length page.new ≡ length page.old }

@@ -105,11 +105,11 @@ impl Disk for Ram {
     }
 
     fn write_at(&mut self, at: usize, bytes: &[u8]) -> io::Result<()> {
-        count_refusal(overwrite(&mut self.bytes, at, bytes), &mut self.faults)
+        count_failed_allocation(overwrite(&mut self.bytes, at, bytes), &mut self.faults)
     }
 
     fn set_len(&mut self, len: usize) -> io::Result<()> {
-        count_refusal(resize(&mut self.bytes, len), &mut self.faults)
+        count_failed_allocation(resize(&mut self.bytes, len), &mut self.faults)
     }
 
     fn sync(&mut self) -> io::Result<()> {
@@ -117,8 +117,10 @@ impl Disk for Ram {
     }
 }
 
-// The outcome of an allocation as an I/O result: a failure is `OutOfMemory`, and is counted in `faults`.
-fn count_refusal(outcome: Result<(), AllocError>, faults: &mut u64) -> io::Result<()>
+// Returns the outcome of an allocation as an I/O result. A failure becomes the error `OutOfMemory`, and adds
+// 1 to `faults`, which saturates. `Tally::refused` doesn't count it: that counts calls that found no space on
+// a disk.
+fn count_failed_allocation(outcome: Result<(), AllocError>, faults: &mut u64) -> io::Result<()>
     ensures variant { is_ok result ≡ is_ok outcome }
     ensures kind { finds_no_room result ≡ false }
     ensures faults { CountsFault result faults.old faults.new }

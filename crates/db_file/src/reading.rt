@@ -11,12 +11,13 @@ use std::io::Read;
 // The most calls of `read` that one call of `read_whole` makes.
 const MAX_READS: u32 = u32::MAX;
 
-/// Fills the buffer `room` from `input`; returns false if the input ends before. Interrupted reads are
-/// retried.
+/// Fills the buffer `room` from `input`, and returns true. Returns false if the input ends before: what
+/// `room` holds then isn't specified. An interrupted read is retried, and counts as one of the reads.
 ///
 /// # Errors
 ///
-/// `ReadError` if a read failed, or if 2^32 - 1 of them weren't enough.
+/// `ReadError` if a read failed, or if 2^32 - 1 of them weren't enough. What `room` holds then isn't
+/// specified either.
 pub fn read_whole<R: Read>(input: &mut R, room: &mut [u8]) -> Result<bool, ReadError<R>>
     ensures whole { IfOk result (λ is_whole. is_whole ≡ true →
         Consumes (R.remaining input.old) (R.remaining input.new) room.new) }

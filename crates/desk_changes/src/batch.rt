@@ -1,7 +1,6 @@
-//! Several rows added, or several plans removed, one after the other.
-//!
-//! Each row has a rowid, an integer: a new row gets the next one above the greatest in its table. The last is
-//! 2^63 - 1, and then the table takes no more rows. So contracts count the rowids that a change uses.
+//! Several rows added, or several plans removed, one after the other. Each row has a rowid, an integer: a new
+//! row gets the next one above the greatest in its table. The last is 2^63 - 1, and then the table takes no
+//! more rows. So contracts count the rowids that a change uses.
 
 ghost use Rattle.std.specs.Prelude.{◌≡◌, ⊤, OnOk, IsTrue, length, map};
 ghost use Rattle.std.specs.String.{string_bytes};
@@ -14,8 +13,9 @@ use crate::execute::execute;
 use crate::writing::{SpanRecord, VolumeRecord};
 use sqlite::{Alter, Error, Transaction};
 
-/// Adds `rows` to `volume2`, in their order, within a transaction. Each uses one rowid. Each has to have a
-/// new key (`operator`, `id`, `place`) and a plan that is stored. If it fails, nothing is committed.
+/// Adds `rows` to `volume2`, in their order, within a transaction. Each uses one rowid. If it fails, nothing
+/// is committed. If each has a new key (`operator`, `id`, `place`) and a stored plan, and rowids are left
+/// (*AreNewVolumes*), only memory, the disk or the connection's step limit makes it fail.
 pub fn insert_volumes<S: Alter>(
     tx: &mut Transaction<'_, S>,
     rows: &[VolumeRecord<'_>],
@@ -33,8 +33,9 @@ pub fn insert_volumes<S: Alter>(
     Ok(())
 }
 
-/// Adds `rows` to `span2`, in their order, within a transaction. Each uses one rowid. Each has to have a new
-/// key (`operator`, `id`, `place`, `first`) and a plan that is stored. If it fails, nothing is committed.
+/// Adds `rows` to `span2`, in their order, within a transaction. Each uses one rowid. If it fails, nothing is
+/// committed. If each has a new key (`operator`, `id`, `place`, `first`) and a stored plan, and rowids are
+/// left (*AreNewSpans*), only memory, the disk or the connection's step limit makes it fail.
 pub fn insert_spans<S: Alter>(
     tx: &mut Transaction<'_, S>,
     rows: &[SpanRecord<'_>],
@@ -82,8 +83,7 @@ pub fn remove_plans<S: Alter>(
     Ok(())
 }
 
-// Removes the operator's plan `id`, if it is stored, with its volumes and spans. If it fails, nothing is
-// committed.
+// Removes the operator's plan `id`, if stored, with its volumes and spans. If it fails, nothing is committed.
 fn remove_plan_by_id<S: Alter>(
     tx: &mut Transaction<'_, S>,
     operator: &str,

@@ -1,6 +1,5 @@
-//! The statements that change rows, as SQL, and the values of their parameters.
-//!
-//! Version 1 of the schema has volumes and spans in `volume` and `span`, version 2 in `volume2` and `span2`.
+//! The statements that change rows, as SQL, and the values of their parameters. Version 1 of the schema has
+//! volumes and spans in `volume` and `span`, version 2 in `volume2` and `span2`.
 
 ghost use Rattle.std.specs.Prelude.{◌≡◌, ℕ, List};
 ghost use Rattle.desk_changes.specs.declared.writing.{PlanRecord.PlanRecord as PlanRow, SpanRecord.SpanRecord as SpanRow, VolumeRecord.VolumeRecord as VolumeRow};
@@ -132,8 +131,7 @@ fn add_span_text() -> &'static str
      VALUES (?1, ?2, ?3, ?4, ?5, ?6, ?7, ?8, ?9, ?10)"
 }
 
-// The statement that sets the ceiling (`?2`) of an operator (`?1`). If the operator has no row, it changes
-// none.
+// The statement that sets the ceiling of the operator `?1` to `?2`. If there is no such row, it changes none.
 fn set_ceiling_text() -> &'static str
     ensures { (name : List ℕ) (ceiling : ℕ) → DoesSetCeiling name ceiling result.now }
 {
@@ -157,8 +155,7 @@ fn remove_plan_text() -> &'static str
     "DELETE FROM plan WHERE operator = ?1 AND id = ?2"
 }
 
-// The statement that removes the rows of `span2` of a plan (`?2`) of an operator (`?1`). The plan and its
-// volumes stay.
+// The statement that removes the rows of `span2` of operator `?1`'s plan `?2`. Plan and volumes stay.
 fn remove_spans_text() -> &'static str
     ensures { (operator id : List ℕ) → DoesRemoveSpans operator id result.now }
 {

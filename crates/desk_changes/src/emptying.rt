@@ -1,7 +1,5 @@
-//! Statements that empty the tables of version 1 of the schema.
-//!
-//! Version 1 of the schema has volumes and spans in `volume` and `span`, version 2 in `volume2` and `span2`.
-//! A migration from version 1 writes the rows of version 2 and then empties the tables of version 1.
+//! Statements that empty `volume` and `span`, which have the volumes and spans in version 1 of the schema. A
+//! migration from version 1 writes the rows of version 2 (`volume2`, `span2`) and then empties these.
 
 ghost use Rattle.std.specs.Prelude.{◌≡◌, ⊤};
 ghost use Rattle.desk_sql.specs.{Rows.RemovesOldVolumes, Rows.RemovesOldSpans, Rows.IsDesk, Queries.IsChanged, Effects.Holds};

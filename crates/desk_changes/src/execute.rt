@@ -1,4 +1,5 @@
-//! A change of the tables, made within a transaction.
+//! A change of the tables, made within a transaction. If the database is as the change needs it (*fits*),
+//! only memory, the disk or the connection's step limit makes it fail.
 
 ghost use Rattle.std.specs.Prelude.{◌≡◌, IfOk};
 ghost use Rattle.sqlite.specs.{State.HasCleanDisk, Held.state};

@@ -1,4 +1,5 @@
-//! Whole changes of the tables, each one transaction.
+//! Whole changes of the tables, each one transaction. None may be open before, and the database has to have
+//! the desk's tables. What is said of rows and errors holds if the disk returned what was written.
 
 ghost use Rattle.std.specs.Prelude.{◌≡◌, ⊤, map};
 ghost use Rattle.desk_sql.specs.{Effects.Holds, Effects.IsReady, Rows.PutsOperator, Rows.ClosesPlan, Rows.IsDesk, Changing.AreLow, Changing.HasRowids, Changing.IsShort, Queries.IsChanged, Queries.IsCommitted};
@@ -35,13 +36,13 @@ pub fn clear_plans<S: Alter>(
 }
 
 /// Stores a plan with its volumes and spans, in place of its former version if there is one, in one
-/// transaction: as a whole, or not at all if it fails. `volumes` and `spans` have to be those of `plan`, and
-/// its operator has to have a row.
+/// transaction: as a whole, or not at all if it fails. That `volumes` and `spans` are those of `plan` isn't
+/// required: it is a premise of what is said of errors (*IsPuttable*).
 ///
 /// # Errors
 ///
-/// Those of SQLite if memory runs out, the disk fails or the connection's step limit is met, if a row breaks
-/// a rule of the tables, or if no rowid is left.
+/// Those of SQLite. If `volumes` and `spans` are those of `plan`, its operator has a row and rowids are left,
+/// only memory, the disk or the connection's step limit makes it fail.
 pub fn put_plan<S: Alter>(
     connection: &mut Connection<S>,
     plan: PlanRecord<'_>,
@@ -57,6 +58,7 @@ pub fn put_plan<S: Alter>(
     committed_and_sound(connection);
     let mut tx = connection.transaction();
     let (operator, id) = (plan.operator, plan.id);
+    // The volumes and spans of the former version go with its row (ON DELETE CASCADE).
     execute(&mut tx, RowChange::RemovePlan { operator, id })?;
     insert_plan(
         &mut tx,
@@ -71,8 +73,8 @@ pub fn put_plan<S: Alter>(
     tx.commit()
 }
 
-// Sets the ceiling of the operator `name`, or adds the operator if it has no row, within a transaction. If it
-// fails, nothing is committed.
+// Sets the ceiling of the operator `name`, or adds the operator with it if it has no row, within a
+// transaction. If it fails, nothing is committed.
 fn set_or_add_operator<S: Alter>(
     tx: &mut Transaction<'_, S>,
     name: &str,
@@ -92,13 +94,13 @@ fn set_or_add_operator<S: Alter>(
     Ok(())
 }
 
-/// Sets the ceiling of the operator `name`, or adds the operator if it has no row, in one transaction. If it
-/// fails, nothing changes.
+/// Sets the ceiling of the operator `name`, or adds the operator with it if it has no row, in one
+/// transaction. If it fails, nothing changes.
 ///
 /// # Errors
 ///
-/// Those of SQLite if memory runs out, the disk fails or the connection's step limit is met, or if no rowid
-/// is left.
+/// Those of SQLite if memory runs out, the disk fails or the connection's step limit is met, if no rowid is
+/// left, or if `name` has over 100 million bytes.
 pub fn put_operator<S: Alter>(
     connection: &mut Connection<S>,
     name: &str,

@@ -35,7 +35,8 @@ pub struct VolumeRecord<'a> {
     pub start: i64,
     pub stop: i64,
     pub asked: &'a [u8],
-    /// The ids of the volume's canonical cover, ascending, eight bytes each, the most significant first.
+    /// The volume's canonical cover: the fewest cells that have just the footprint's leaves. Their ids
+    /// ascend, eight bytes each, the most significant first.
     pub canon: &'a [u8],
 }
 
@@ -56,8 +57,9 @@ pub struct SpanRecord<'a> {
     pub priority: u32,
 }
 
-/// Adds a row for the operator `name` to `operator`, within a transaction; it uses one rowid. It fails if the
-/// operator has a row already; after any error nothing is committed.
+/// Adds a row for the operator `name` to `operator`, within a transaction; it uses one rowid. After any error
+/// nothing is committed. If the operator has no row, a rowid is left and the name isn't over 100 million
+/// bytes, only memory, the disk or the connection's step limit makes it fail.
 pub fn insert_operator<S: Alter>(
     tx: &mut Transaction<'_, S>,
     name: &str,
@@ -73,8 +75,8 @@ pub fn insert_operator<S: Alter>(
 }
 
 /// Adds a row to `plan`, within a transaction; `usage` and `aircraft` are as in `PlanRecord`. The row uses
-/// one rowid. It fails if the plan has a row already, or if the operator has none; after any error nothing is
-/// committed.
+/// one rowid. After any error nothing is committed. If the plan has no row, its operator has one and a rowid
+/// is left (*FitsPlan*), only memory, the disk or the connection's step limit makes it fail.
 pub fn insert_plan<S: Alter>(
     tx: &mut Transaction<'_, S>,
     operator: &str,

@@ -62,7 +62,8 @@ pub const MAX_PRIORITY: u32 = 1_000;
 pub const MAX_PLANS: u32 = 200;
 
 /// The verdict on the request `call`: the first refusal that applies, in the order of `Note`, or `Completed`
-/// if none does. An operator's plans may have any number of spans and cells.
+/// if none does. The contract allows an operator's plans any number of spans and of cells. The verdict where
+/// these are limited is that of `decide_under`.
 ///
 /// `moment` is the Unix second of the request. `stored` is the operator's plan with this id, or `None`.
 /// `own_rows` is the number of the operator's plans, closed ones included. `ceiling` is the greatest priority

@@ -10,7 +10,8 @@ ghost use Rattle.desk_run.specs.Verdicts.{DeskWorld, enrolled, side, held_in, ma
 ghost use Rattle.desk_run.specs.Calls.{HoldAlike, OwnAlike, AreCallsSameFor, TimedCall, calls_of, met_by_calls};
 ghost use Rattle.desk_store.specs.World.{IsWorld, plans_of, stored_of, text_cmp};
 
-/// A request of one operator changes no other operator's plans or ceiling, and not the desk's settings.
+/// A request of one operator changes no other operator's plans or ceiling, and not the desk's settings. The
+/// `side` of an operator in a state is these three: its ceiling, its plans, and the desk's settings.
 pub fn others_are_kept()
     ensures { (w : DeskWorld) (operator other : List ℕ) (moment : ℤ) (call : Call) →
         is_eq (text_cmp other operator) ≡ false →

@@ -12,7 +12,8 @@
 //!
 //! A call of SQLite fails with `OutOfMemory` if memory runs out, with `OperationInterrupted` at the
 //! connection's step limit (on the rows that a statement may visit), and with any error if the disk fails. A
-//! failure of the disk may close the connection; then every call fails.
+//! failure of the disk may close the connection; then every call fails. What contracts say of rows and
+//! errors holds if the disk returned what was written to it (*HasCleanDisk*) and the connection is open.
 #![tactic(auto)]
 
 pub mod laws;

@@ -9,7 +9,8 @@ use sqlite_value::value::ValueRef;
 
 /// Runs `statement`, which writes, within the transaction `tx`, and returns how many rows it changed.
 /// `params` are the values of its parameters `?1`, `?2` and so on. If it fails, nothing is committed, and the
-/// transaction may have been rolled back.
+/// transaction may have been rolled back. The contract says that the statement ran (*Executes*); what that
+/// does to the tables follows from its text.
 // Long: what ran, what is shown, what is undone, and where it stopped have a clause each.
 pub fn run<S: Alter>(
     tx: &mut Transaction<'_, S>,

@@ -88,8 +88,8 @@ pub trait PlanStore {
         ensures reads { OnlyReads content doubt faults may_leave is_shielded self.old self.new }
         ensures cause { IfErr result (IsCounted faults self.old self.new) };
 
-    /// The operator's plans, at most 200, ascending by id, each once. The clause `content` adds, as in
-    /// `ceiling`, that all names, ids and volumes in the store are valid.
+    /// The operator's plans, closed ones included: at most 200, ascending by id, each once. The clause
+    /// `content` adds, as in `ceiling`, that all names, ids and volumes in the store are valid.
     fn own_plans(&mut self, operator: &Operator) -> Result<Vec<PlanRow>, StoreFault>
         ensures value { IsHonest (doubt self.new) →
             IfOk result (λ rows. rows.items ≡ plans_of operator.now (content self.old)) }

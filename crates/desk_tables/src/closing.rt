@@ -23,8 +23,9 @@ impl<D: Disk + Drop> SqliteStore<FileStore<D>> {
     ///
     /// # Errors
     ///
-    /// `CheckpointError` if the checkpoint fails: memory ran out, the disk failed, or an error had shut the
-    /// connection before. The state stays: it is read from both files when they are opened again.
+    /// `CheckpointError` if the checkpoint fails: memory ran out, the disk failed or returned other bytes, or
+    /// an error had shut the connection before. The state stays, also after a crash: it is read from both
+    /// files when they are opened again.
     pub fn close(self) -> Result<Files<D>, CheckpointError<D>>
         ensures copied { IfOk result (λ files. AreClean D.Disk files.log files.db →
             IsCopied self.held files) }

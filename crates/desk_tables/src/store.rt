@@ -1,5 +1,7 @@
 //! A store of plans over tables in SQLite. Its four tables are `operator`, `plan`, `volume2` and `span2`.
-//! What it also keeps in memory answers questions that need no row.
+//! What it also keeps in memory answers questions that need no row. A slab is one range of leaves (S2 cells
+//! of level 30 along the curve), one of altitudes and one of times; an extent is a slab of which is asked
+//! what plans hold in it. A live plan isn't closed.
 
 ghost use Rattle.std.specs.Prelude.{◌≡◌, ◌≤◌, IfErr, IfOk};
 ghost use Rattle.sqlite.specs.{Held.state, State.HasCleanDisk};
@@ -63,9 +65,9 @@ impl<S: Alter> Model for SqliteStore<S> {
 }
 
 impl<S: Alter> SqliteStore<S> {
-    /// A store over `connection`, whose rows are those of the state `kept`; `known` are the indexes in memory
-    /// of this state. It reports I/O errors as `reported`. `is_enrolled` is what `has_begun_enrolled` will
-    /// return; no contract says this.
+    /// A store over `connection`, whose rows are those of the state `kept`, of which `known` are the indexes
+    /// in memory. If the disk returned what was written, a crash leaves this state alone (`left`). No
+    /// contract speaks of `reported`, the fault for I/O errors, and of `is_enrolled`.
     pub(crate) fn with(
         alloc: Global,
         connection: Connection<S>,
@@ -102,7 +104,7 @@ impl<S: Alter> SqliteStore<S> {
     }
 
     /// The enrolled operators with their ceilings, ascending by name, each once. They are read from memory,
-    /// not from the tables.
+    /// not from the tables. The contract says which they are, if the disk returned what was written.
     ///
     /// # Errors
     ///
@@ -114,7 +116,8 @@ impl<S: Alter> SqliteStore<S> {
         self.known.roll.listed(self.tables.allocator())
     }
 
-    /// Ends the store and returns its connection. The rows of the four tables are those of the store's state.
+    /// Ends the store and returns its connection. While the disk returned what was written and the connection
+    /// is open, the rows of the four tables are those of the store's state.
     pub fn release(self) -> Connection<S>
         ensures value { result ≡ self.held }
         ensures rows { Stands S.Store result self.world }
@@ -123,6 +126,7 @@ impl<S: Alter> SqliteStore<S> {
     }
 }
 
+// Each method has the trait's contract: what it returns is the state's if the disk returned what was written.
 impl<S: Alter> PlanStore for SqliteStore<S> {
     ghost use Rattle.sqlite_trees.specs.View.{doubt};
     ghost use Rattle.sqlite.specs.Held.{state};
@@ -138,8 +142,7 @@ impl<S: Alter> PlanStore for SqliteStore<S> {
 
     ghost is_shielded = { λ s. (state S.Store s.held).IsShielded };
 
-    // The greatest priority that the operator may use, or `None` if it isn't enrolled. It is in memory: no
-    // row is read, and nothing can fail.
+    // The greatest priority that the operator may use, or `None` if it isn't enrolled. It can't fail.
     fn ceiling(&mut self, operator: &Operator) -> Result<Option<u32>, StoreFault> {
         Ok(self.known.roll.ceiling(operator))
     }
@@ -150,20 +153,19 @@ impl<S: Alter> PlanStore for SqliteStore<S> {
         count_fault(&mut self.faults, answer)
     }
 
-    // The usage and the state of the aircraft of the operator's plan `id`, or `None` if there is none. They
-    // are in memory: no row is read, and nothing can fail.
+    // The usage and the state of the aircraft of the operator's plan `id`, or `None` if there is none. It
+    // reads no row and can't fail.
     fn states(&mut self, operator: &Operator, id: &PlanId) -> Result<Option<States>, StoreFault> {
         Ok(self.known.roll.states(operator, id))
     }
 
-    // How many plans the operator has, closed ones too. It is in memory: no row is read, and nothing can
-    // fail.
+    // How many plans the operator has, closed ones too. It reads no row and can't fail.
     fn own_count(&mut self, operator: &Operator) -> Result<u32, StoreFault> {
         Ok(self.known.roll.count(operator))
     }
 
     // How many spans the operator's live plans have, and how many cells all its plans, without its plan `id`.
-    // They are in memory: no row is read, and nothing can fail.
+    // It reads no row and can't fail.
     fn own_sizes(&mut self, operator: &Operator, id: &PlanId) -> Result<Sizes, StoreFault> {
         // By these laws, the sums fit 32 bits.
         spans_are_few();
@@ -189,8 +191,8 @@ impl<S: Alter> PlanStore for SqliteStore<S> {
     }
 
     // Slabs that have, at each point of `extents`, the greatest priority of the live plans there, without the
-    // operator's plan `id`, if that priority is at least `least`. The indexes in memory are searched first,
-    // so that fewer rows are read. A fault `Store` is counted.
+    // operator's plan `id`, if that priority is at least `least`. Outside `extents` they mean nothing. The
+    // indexes in memory are searched first, so that fewer rows are read. A fault `Store` is counted.
     fn rivals_near(
         &mut self,
         operator: &Operator,
@@ -208,8 +210,8 @@ impl<S: Alter> PlanStore for SqliteStore<S> {
     }
 
     // Slabs that have, at each point of `extents`, the greatest priority of other operators' live plans
-    // there. The indexes in memory are searched first, so that fewer rows are read. A fault `Store` is
-    // counted.
+    // there. Outside `extents` they mean nothing. The indexes in memory are searched first, so that fewer
+    // rows are read. A fault `Store` is counted.
     fn held_by_others(
         &mut self,
         operator: &Operator,
@@ -220,8 +222,8 @@ impl<S: Alter> PlanStore for SqliteStore<S> {
     }
 
     // Makes `change` in one transaction, and then in the indexes in memory. What these need is allocated
-    // before, so that nothing can fail after the commit. After an error the state is as before; a fault
-    // `Store` is counted.
+    // before, so that nothing can fail after the commit. After an error the state is as before, but a start
+    // may find the changed one. A fault `Store` is counted.
     fn apply(&mut self, change: &Change) -> Result<(), StoreFault> {
         // A law, which changes nothing: the rows of tables stand for at most one state.
         one_state();

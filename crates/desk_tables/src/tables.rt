@@ -1,4 +1,4 @@
-//! The tables of a store, with the state that their rows stand for.
+//! The tables of a store. The disk is intact if it returned what was written so far.
 
 ghost use Rattle.std.specs.Prelude.{◌≡◌};
 ghost use Rattle.table_load.specs.{Opening.Stands, Files.IsSettledAt};
@@ -13,7 +13,7 @@ use std::alloc::Global;
 use std::marker::Model;
 
 /// The tables of a store: a connection outside a transaction and without a step limit, and the state that its
-/// rows stand for, as long as the disk returned what was written and no error has shut the connection.
+/// rows stand for, while the disk is intact and the connection open. `kept` is that state for contracts.
 #[derive(Drop)]
 pub(crate) struct DeskTables<S: Alter> {
     pub connection: Connection<S>,
@@ -40,16 +40,18 @@ impl<S: Alter> Model for DeskTables<S> {
 }
 
 impl<S: Alter> DeskTables<S> {
-    /// The allocator for what is read. The contract also says that the rows of the tables are those of the
-    /// state.
+    /// The allocator for what is read. The contract says nothing of the allocator: it states the invariant of
+    /// this type, that the rows stand for the state, while the disk is intact and the connection is open. The
+    /// proof of a method that opens no field has the invariant from this call.
     pub(crate) fn allocator(&self) -> Global
         ensures { Stands S.Store self.now.held self.now.world }
     {
         self.alloc
     }
 
-    /// States, for contracts alone, that after a crash the database has this state and no other. It changes
-    /// nothing.
+    /// Changes nothing. For contracts alone, it states the invariant (`stands`), and that while the disk is
+    /// intact and the connection is open, a crash leaves this state and no other (`left`): outside a
+    /// transaction, the committed state is the only one, and it is the state that the connection shows.
     pub(crate) fn settled(&self)
         ensures stands { Stands S.Store self.now.held self.now.world }
         ensures left { IsSettledAt S.Store self.now.held self.now.world }
@@ -60,7 +62,7 @@ impl<S: Alter> DeskTables<S> {
         one_state();
     }
 
-    /// Returns the connection, whose rows are those of the state.
+    /// Returns the connection, which has the rows of the state while the disk is intact and it is open.
     pub(crate) fn release(self) -> Connection<S>
         ensures value { result ≡ self.held }
         ensures stands { Stands S.Store result self.world }

@@ -18,7 +18,7 @@ pub enum LastRead {
     Failed,
 }
 
-/// The calls of `read` that were made so far: how many, and the result of the last one.
+/// The calls of `read` that were counted so far: how many, and the result of the last one.
 #[derive(Clone, Copy, Debug, PartialEq, Eq)]
 pub struct Reads {
     count: u32,
@@ -46,8 +46,8 @@ impl Reads {
     }
 }
 
-/// How many calls of `read` on an `R` are allowed, and the calls that were made so far. Only `read_within`
-/// adds calls.
+/// How many calls of `read` on an `R` are allowed, and the calls that were counted so far: all of them, or
+/// those since the last chunk began if the limit is for each chunk. Only `read_within` adds calls.
 #[derive_where(Clone, Copy, Debug, PartialEq, Eq)]
 pub struct ReadLimit<R> {
     limit: u32,
@@ -107,7 +107,8 @@ pub struct ReadError<R> {
 }
 
 impl<R> ReadError<R> {
-    /// The calls of `read` that were made: how many, and the result of the last one.
+    /// The calls of `read` that were counted: how many, and the result of the last one. If the limit is for
+    /// each chunk, they are those for the chunk that wasn't read.
     pub fn reads(self) -> Reads
         ensures { result ≡ self.reads }
     {

@@ -272,8 +272,10 @@ fn cut(alloc: Global, chunks: &mut Vec<Chunk>, at: usize) -> Result<(), AllocErr
     Ok(())
 }
 
-// The index of the last chunk that begins at `rank` or before, or 0 if there is none: a volume of this rank
-// belongs there.
+// Returns the index of the last chunk whose `low` is at most `rank`: a volume of this rank belongs there.
+// Returns 0 if no chunk has such a `low`, also if there are no chunks. The chunks ascend by `low`. Ranks are
+// compared by place, then by operator, then by id. The contract only says that the index is that of some
+// chunk, or 0 if there are none.
 fn last_at_or_before(chunks: &[Chunk], rank: &Rank) -> usize
     ensures { result ≤ length chunks.now - 1 }
 {

@@ -326,8 +326,10 @@ fn insert_after(groups: &mut Vec<Group>, at: usize, later: Group)
     }
 }
 
-// The index of the last group that begins at `rank` or before, or 0 if there is none: a volume of this rank
-// belongs there.
+// Returns the index of the last group whose `low` is at most `rank`: a volume of this rank belongs there.
+// Returns 0 if no group has such a `low`, also if there are no groups. The groups ascend by `low`. Ranks are
+// compared by place, then by operator, then by id. The contract only says that the index is that of some
+// group, or 0 if there are none.
 fn last_at_or_before(groups: &[Group], rank: &Rank) -> usize
     ensures { result ≤ length groups.now - 1 }
 {

@@ -120,8 +120,8 @@ fn parse_civil(text: &[u8]) -> Option<CivilTime>
     })
 }
 
-// The number that `digits`, up to four decimal digits, write; 0 if there are none. `None` if another byte is
-// among them.
+// Parses `digits`, up to four bytes, and returns the number that these decimal digits write. It is 0 if there
+// are none. `None` if a byte isn't an ASCII digit, so also for a sign, a space or a point.
 #[tactic(auto, unfolding(crate::specs::Times::number_written))]
 fn parse_number(digits: &[u8]) -> Option<u16>
     requires { length digits.now ≤ 4 }

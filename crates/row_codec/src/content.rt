@@ -144,7 +144,8 @@ pub fn plans_in(
 }
 
 // How many rows at the beginning of `rows` are of volumes of the plan whose row of `plan` is `head`; 0 if the
-// key of `head` (columns 0 and 1) isn't two texts.
+// key of `head` (columns 0 and 1) isn't two texts. If `head` is no plan's row, the contract says only that
+// they are no more than `rows`.
 fn count_own_volumes(head: &Row, rows: &[Row]) -> usize
     ensures of { (p : Filed) → head.now ≡ row_of_plan p →
         result ≡ prefix_len (spec.is_row_of p.operator (id_text p.row.id)) rows.now }

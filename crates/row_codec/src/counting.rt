@@ -24,7 +24,7 @@ pub enum Counted {
 
 /// The greatest number of spans, or of cells, as `counted` says, that the plans of one operator have
 /// together; 0 without plans. `plans` are ordered by operator and id, so that those of one operator follow
-/// each other.
+/// each other; no operator has more than 200.
 pub fn most_of(counted: Counted, plans: &[FiledPlan]) -> usize
     requires keys { IsStrictlySortedBy filed_cmp plans.now }
     requires few { (operator : List ℕ) → length (rows_by operator plans.now) ≤ max_plans }

@@ -212,8 +212,7 @@ pub fn is_keyed(row: &Row, operator: &str, id: &str, width: usize) -> bool
     row.column_count() == width && is_text_at(row, 0, operator) && is_text_at(row, 1, id)
 }
 
-// Whether the four columns from `at` on (`lower`, `upper`, `start`, `stop`) are the altitudes and times of
-// `slab`.
+// Whether the columns `lower`, `upper`, `start`, `stop`, from `at` on, are the altitudes and times of `slab`.
 fn is_window_at(row: &Row, at: usize, slab: &Slab) -> bool
     requires { at ≤ 5 }
     ensures { IsTrue result ↔ IsWindowAt row.now at (slab_window slab.now) }

@@ -53,8 +53,9 @@ impl MemoryIndex {
         self.live.prepare(alloc, change)
     }
 
-    /// Updates the indexes to the state after `change`, for which `prepare` made room. `span_bounds` are the
-    /// bounds after the change, and `fresh` are the live volumes that it adds, as `prepare` returned them.
+    /// Updates the indexes to the state after `change`, for which `prepare` made room. `span_bounds` hold for
+    /// each span for which the bounds before held, and for each that the change adds. `fresh` are the live
+    /// volumes that it adds, as `prepare` returned them.
     pub fn update_after(&mut self, change: &Change, span_bounds: SpanBounds, fresh: &[LiveVolume])
         requires room { HasRoomForVolumes self.old.live (length fresh.now) }
         requires added { AreAddedBy change.now fresh.now }
@@ -69,7 +70,8 @@ impl MemoryIndex {
     }
 }
 
-/// The index of the volumes of those `plans` that are live. `plans` are ordered by operator and id.
+/// The index of the volumes of those `plans` that are live. The contract says so if `plans` are ordered by
+/// operator and id, none twice.
 ///
 /// # Errors
 ///
@@ -85,7 +87,7 @@ pub fn live_index_of(alloc: Global, plans: &[FiledPlan]) -> Result<LiveIndex, Al
     builder.finish(alloc)
 }
 
-/// The index of `operators`, with their ceilings, and of their `plans`, which are ordered by operator and id.
+/// The index of `operators`, with their ceilings, and of their `plans`. No order is required.
 ///
 /// # Errors
 ///

@@ -22,7 +22,8 @@ use std::mem;
 use volume4d::{Area, Volume};
 
 /// A visitor of the rows of plans with their volumes that collects the plans. The rows of a plan follow each
-/// other, one for each volume, ordered by place.
+/// other, one for each volume, ordered by place. A plan is finished when the next one begins or no row is
+/// left: all its rows have been read. Contracts call finished plans *closed_plans*, whatever their usage.
 #[derive(Drop)]
 pub struct PlanCollector {
     alloc: Global,
@@ -63,8 +64,11 @@ impl PlanCollector {
         Ok(self.plans.push(head.with(area))?)
     }
 
-    // Finishes the plan of the row before, if there was one, and begins the plan whose first row is `row`.
-    // Its volume isn't added yet. `Store` as by `finish_plan`, or if `row` isn't that of a plan.
+    // Finishes the plan of the row before, if there was one: *closed_plans* are the finished plans, not those
+    // of the usage Closed. Then begins to collect the plan whose first row is `row`: for every plan whose
+    // columns these are, `head` with that plan's area is that plan. `volumes` is empty, since the volume in
+    // `row` isn't added yet. `Store` as by `finish_plan`, or if `row` isn't that of a plan; `OutOfMemory` if
+    // memory runs out.
     fn begin_plan(&mut self, row: &Row) -> Result<(), StoreFault>
         ensures plans { OnOk result (self.new.plans.items
             ≡ closed_plans self.old.plans.items self.old.head self.old.volumes.items) }
@@ -80,8 +84,9 @@ impl PlanCollector {
     }
 
     // Adds the volume in `row`, from column 6 (`lower`) on, to its plan. A row whose place isn't above 0
-    // begins a plan. `Store` if the row has no valid volume, if it continues a plan but none was begun, or as
-    // by `begin_plan`; `OutOfMemory` if memory runs out.
+    // begins a plan. If the rows before, `row` and some more are those of a list of plans, what is collected
+    // leads to these plans (*Leads*). `Store` if the row has no valid volume, if it continues a plan but none
+    // was begun, or as by `begin_plan`; `OutOfMemory` if memory runs out.
     fn add(&mut self, row: &Row) -> Result<(), StoreFault>
         ensures leads { OnOk result ((ps : List Filed) (left : List Values)
             → AllByRecursion (λ p. IsPlan p.row) ps
@@ -99,7 +104,8 @@ impl PlanCollector {
         Ok(())
     }
 
-    /// The plans of all rows, in the same order, once the last row was passed.
+    /// The plans of all rows, in the same order, once the last row was passed. The contract says so if the
+    /// rows were those of some list of valid plans.
     ///
     /// # Errors
     ///
@@ -149,8 +155,7 @@ pub(crate) fn error_of(fault: StoreFault) -> Error
     }
 }
 
-// Whether `row` is of a later volume of its plan than the first: its `place` (column 5) is an integer above
-// 0.
+// Whether `row` is of a later volume than its plan's first: its `place` (column 5) is an integer above 0.
 fn is_later(row: &Row) -> bool
     ensures { result ≡ spec.is_later row.now }
 {

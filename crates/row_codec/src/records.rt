@@ -202,8 +202,7 @@ fn area_spans<'a>(
     Ok(rows)
 }
 
-// The rows of `slabs`, which are those of the volume at `place` in the plan `id` of `operator`; `priority` is
-// the plan's.
+// The rows of `slabs`, those of the volume at `place` in `operator`'s plan `id`; `priority` is the plan's.
 fn slab_rows<'a>(
     alloc: Global,
     operator: &'a str,
@@ -222,8 +221,7 @@ fn slab_rows<'a>(
     Ok(rows)
 }
 
-// The row of `slab`, which is one of the volume at `place` in the plan `id` of `operator`; `priority` is the
-// plan's.
+// The row of `slab`, one of the volume at `place` in `operator`'s plan `id`; `priority` is the plan's.
 fn slab_row<'a>(
     operator: &'a str,
     id: &'a str,

@@ -1,7 +1,8 @@
 //! Slabs with the priority of their plan (`Held`), read from rows of `span2` one at a time. A slab is one
 //! range of leaves (S2 cells of level 30, by their positions along the curve), with one range of altitudes
 //! and one of seconds. A row has the columns `first`, `last`, `lower`, `upper`, `start`, `stop`, `priority`,
-//! counted from 0.
+//! counted from 0. A filter selects those that may be rivals of a plan. A rival is a stored span of another
+//! live plan, at a priority that counts.
 
 ghost use Rattle.std.specs.Prelude.{◌≡◌, ◌≢◌, ◌<◌, ◌*◌, ◌^◌, ℕ, pos, [], IfErr, IfOk};
 ghost use Rattle.sqlite_value.specs.declared.value.Value.TheVariants.{Int};
@@ -84,8 +85,9 @@ pub fn span_filter_of(extent: &Slab, least: u32) -> SpanFilter
     }
 }
 
-/// As `span_filter_of`, but a span may begin only up to the last leaf of the range `query`, not up to that of
-/// `extent`. Where `query` begins is no part of the filter: it is a parameter of its own when rows are read.
+/// As `span_filter_of`, but a span has to begin at the last leaf of `query` or before. Spans are looked up by
+/// ranges of leaves in which they begin (`query`). This filter has that range's end; its beginning, `low`, is
+/// a parameter of its own when rows are read. So of `query` only `last` is used here.
 pub fn span_filter_from(query: &Span, extent: &Slab, least: u32) -> SpanFilter
     requires { query.now.last < 6 * 2 ^ 60 }
     ensures { result ≡ spec.span_filter_from query.now extent.now least }
@@ -108,7 +110,7 @@ fn held_in(row: &Row) -> Result<Held, StoreFault>
 }
 
 // The slab in columns 0 to 5 of `row`: `first` to `stop`. `Store` if one isn't an integer in its range: a
-// leaf position for `first` and `last`, 32 bits for the altitudes `lower` and `upper`.
+// leaf position for `first` and `last`, 32 bits for `lower` and `upper`. Their order isn't checked.
 fn slab_in(row: &Row) -> Result<Slab, StoreFault>
     ensures value { IfOk result (λ slab. IsSlabIn row.now slab) }
     ensures refused { IfErr result (λ e. e ≡ StoreFault.Store → (shown : One) → FitsColumns shown

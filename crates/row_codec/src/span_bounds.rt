@@ -82,8 +82,7 @@ impl SpanBounds {
         Ok(queries)
     }
 
-    // The least leaf position at which a span may begin if it overlaps `extent` and is no longer than
-    // `bound`.
+    // The least leaf at which a span may begin if it overlaps `extent` and is no longer than `bound`.
     fn low(&self, extent: &Slab) -> u64
         ensures low { IsLow result extent.now (IsBoundedBy self.now.bound) }
         ensures small { result ≤ extent.now.first }
@@ -210,7 +209,8 @@ fn needs_own_query(long_span: &Span, low: u64, extent: &Slab) -> bool
     long_span.first < low && long_span.first <= extent.last && extent.first <= long_span.last
 }
 
-// The long spans in ascending order of their first leaves; free places come last.
+// The long spans in ascending order of their first leaves; free places come last. The contract says only that
+// they are the same ones, not their order.
 fn sorted_by_first(mut long_spans: [Option<Span>; MAX_LONG_SPANS]) -> [Option<Span>; MAX_LONG_SPANS]
     ensures { IsPermutation long_spans result }
 {

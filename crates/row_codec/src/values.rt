@@ -19,7 +19,8 @@ use std::alloc::Global;
 use volume4d::laws::one_shape;
 use volume4d::{Area, Footprint, Volume, VolumeFault, Window};
 
-/// The store's fault for an error of SQLite: `OutOfMemory` if memory ran out, else `Store`.
+/// The store's fault for an error of SQLite: `OutOfMemory` if memory ran out, else `Store`. The contract says
+/// only that it isn't `Store` if memory ran out.
 pub(crate) fn fault_of(error: Error) -> StoreFault
     ensures { result ≡ StoreFault.Store → error ≢ Error.SqliteFailure ErrorCode.OutOfMemory }
 {
@@ -28,6 +29,7 @@ pub(crate) fn fault_of(error: Error) -> StoreFault
 
 /// The store's fault for an error of SQLite: `OutOfMemory` if memory ran out, `reported` for an I/O error,
 /// and else `Store`. A store in memory passes `OutOfMemory` as `reported`: its I/O fails for no other cause.
+/// The contract says only that it isn't `Store` if memory ran out, and that it is for the error `Closed`.
 pub fn fault_reported(error: Error, reported: StoreFault) -> StoreFault
     ensures store { result ≡ StoreFault.Store → error ≢ Error.SqliteFailure ErrorCode.OutOfMemory }
     ensures closed { error ≡ Error.SqliteFailure ErrorCode.Closed → result ≡ StoreFault.Store }
@@ -39,7 +41,7 @@ pub fn fault_reported(error: Error, reported: StoreFault) -> StoreFault
     }
 }
 
-/// The result `answer`, in which an error of SQLite becomes the store's fault as by `fault_reported`.
+/// The value of `answer`, or, if that is an error of SQLite, the store's fault that `fault_reported` gives.
 pub fn or_fault<T>(answer: Result<T, Error>, reported: StoreFault) -> Result<T, StoreFault>
     ensures { IsReportedAs answer result }
 {

@@ -11,12 +11,13 @@ use crate::path::{NotOpened, connect_over, not_opened, open_pair, options};
 use sqlite::{Connection, FileFrom, FileStore, Start};
 use std::fs::{exists, metadata};
 
-/// Connects to the database in the file at `path` and its WAL. Each of the two that isn't there is made.
-/// `start` stands for what they held.
+/// Connects to the database in the file at `path` and its WAL. Each of the two that isn't there is made. If
+/// the disk returned what was written, the connection shows the database that the files held.
 ///
 /// # Errors
 ///
-/// `OutOfMemory` if memory runs out, and `Store` if the files can't be opened for another cause.
+/// `OutOfMemory` if memory runs out, and `Store` if the files can't be opened for another cause. The contract
+/// only says that the fault is one of these two.
 pub fn connect<S: Start>(
     rt: &HostRuntime,
     path: &str,
@@ -31,7 +32,7 @@ pub fn connect<S: Start>(
     connect_over(rt.alloc(), files, options)
 }
 
-/// As `connect`, but the database file has to exist and must not be empty.
+/// As `connect`, but the database file must exist and not be empty. The contract doesn't say that it does.
 ///
 /// # Errors
 ///
@@ -51,7 +52,7 @@ pub fn connect_to_existing<S: Start>(
     }
 }
 
-/// As `connect`, but there must be nothing at `path`.
+/// As `connect`, but there must be nothing at `path`. The contract doesn't say that this was checked.
 ///
 /// # Errors
 ///

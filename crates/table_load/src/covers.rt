@@ -1,7 +1,7 @@
 //! The rows of `volume2`, read one at a time. The cover in each is compared with that of its volume, but not
-//! kept. A row has the columns `operator`, `id`, `place`, `lower`, `upper`, `start`, `stop`, `asked`,
-//! `canon`, counted from 0: columns 3 to 7 are the volume, and `canon` is its canonical cover, the fewest S2
-//! cells that have just the leaves of its footprint `asked`.
+//! kept. `AllocError` means that memory ran out. A row has the columns `operator`, `id`, `place`, `lower`,
+//! `upper`, `start`, `stop`, `asked`, `canon`, counted from 0: columns 3 to 7 are the volume, and `canon` is
+//! its canonical cover, the fewest S2 cells that have just the leaves of its footprint `asked`.
 
 ghost use Rattle.std.specs.Prelude.{◌≡◌, ◌≢◌, ◌↔◌, ◌++◌, [], ◌∷◌, List, map, IsTrue, IfOk, IfErr, OnOk};
 ghost use Rattle.sqlite_value.specs.declared.value.Value.TheVariants.{Blob};
@@ -115,8 +115,7 @@ fn agree_with_next(alloc: Global, agree: bool, row: &Row) -> Result<bool, AllocE
     has_own_cover(alloc, row)
 }
 
-// Whether `row`, a row of `volume2`, has a valid volume (columns 3 to 7) and the canonical cover of that
-// (column 8). `AllocError` if memory runs out.
+// Whether `row` of `volume2` has a valid volume (columns 3 to 7) and the canonical cover of that (column 8).
 fn has_own_cover(alloc: Global, row: &Row) -> Result<bool, AllocError>
     ensures { IfOk result (λ is. IsTrue is ↔ HasItsCover row.now) }
 {

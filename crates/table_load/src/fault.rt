@@ -45,7 +45,7 @@ impl From<sqlite::Error> for OpenFault {
 
     ghost from_gives = { λ error fault. fault ≡ open_fault_of error };
 
-    // Memory ran out, or SQLite failed for another cause.
+    // `OutOfMemory` for the error of SQLite with this name, and `Store` for each other one.
     fn from(error: sqlite::Error) -> OpenFault {
         match error {
             sqlite::Error::SqliteFailure(ErrorCode::OutOfMemory) => OpenFault::OutOfMemory,

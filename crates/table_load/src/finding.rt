@@ -1,5 +1,6 @@
 //! Loads the state of a database in schema 2 when a store is opened over it: the operators with their
-//! ceilings, and all plans. A state is valid if it keeps the desk's limits. Schema 2 has its rows in
+//! ceilings, and all plans. What contracts say of rows holds while the disk returned what was written and no
+//! error has shut the connection. A state is valid if it keeps the desk's limits. Schema 2 has its rows in
 //! `operator`, `plan`, `volume2` and `span2`; rows in `volume` or `span` are of schema 1. A desk makes tables
 //! and indexes in one order, the canonical one; a packed file has all tables before the indexes, as after a
 //! VACUUM. The parameter `made` says which of them a database has.
@@ -36,7 +37,8 @@ use volume4d::laws::one_shape;
 
 /// Loads the state of a database; returns it with the indexes in memory, and whether it has an operator (no
 /// contract says this). Missing tables are made: of an empty database all, else those after the ones that are
-/// there, if the rows are those of a valid state. A packed file is rebuilt in canonical order.
+/// there, if the rows are those of a valid state. A packed file is rebuilt in canonical order. A crash leaves
+/// the database as it was, or with all tables and its state.
 ///
 /// # Errors
 ///

@@ -43,7 +43,8 @@ pub struct DbStats {
     pub most_cells: usize,
 }
 
-/// The statistics of a database in either schema. It changes nothing.
+/// The statistics of a database in either schema: those of its state, if the disk returned what was written.
+/// It changes nothing.
 ///
 /// # Errors
 ///
@@ -93,7 +94,7 @@ pub fn stats_of(content: &Content, is_old: bool) -> DbStats
 }
 
 /// Loads the state of a database in either schema; returns it with the indexes in memory, and whether the
-/// rows are those of schema 1. It changes nothing.
+/// rows are those of schema 1. It changes nothing. The state is right if the disk returned what was written.
 ///
 /// # Errors
 ///

@@ -2,7 +2,8 @@
 //! `volume` and `span`; schema 2 has them in `volume2`, with covers, and `span2`. Operators and plans have
 //! the same rows in both. A packed file has all tables before the indexes, as after a VACUUM, and is rebuilt
 //! in canonical order: the one in which a desk makes them. The parameter `made` says which tables a database
-//! has.
+//! has. What contracts say of rows holds while the disk returned what was written and no error has shut the
+//! connection. Labels such as `'plans:` only name loops, for proofs.
 
 ghost use Rattle.std.specs.Prelude.{◌≡◌, ◌≢◌, ◌↔◌, ◌<◌, ◌-◌, ◌^◌, List, ◌∷◌, true, false, IfOk, IfErr, OnOk, OnErr, IsTrue, length, None};
 ghost use Rattle.std.specs.List.{AllByRecursion};
@@ -46,7 +47,8 @@ const OLD_MAX_COVER: usize = 256;
 
 /// Loads the state of a database, which it migrates if its rows are those of schema 1. It returns the state,
 /// the indexes in memory, and how many plans were migrated: at most 2^32 - 1 are reported, and 0 for a
-/// database of schema 2, which is loaded as by `load_world`.
+/// database of schema 2, which is loaded as by `load_world`. A crash leaves the database as it was, or with
+/// its state in all tables of one schema.
 ///
 /// # Errors
 ///
@@ -99,8 +101,9 @@ fn migrate_tables<S: Alter>(
     Ok((GhostState::of(&content), known, count))
 }
 
-// Makes the tables that aren't among `made`, or rebuilds those of a packed file in canonical order. There are
-// no rows of schema 2; all others stay. If it fails, the tables stay as they were.
+// Makes the tables that aren't among `made`, or rebuilds those of a packed file in canonical order. If `made`
+// is all, it does nothing. There are no rows of schema 2; all others stay. If it fails, the tables stay too.
+// Clause `cause` needs spans that the indexes over leaves can hold.
 fn complete_or_rebuild<S: Alter>(
     connection: &mut Connection<S>,
     made: TablesPresent,
@@ -126,7 +129,8 @@ fn complete_or_rebuild<S: Alter>(
 }
 
 // Replaces the rows of schema 1 by those of `plans` in schema 2, in one transaction. `plans` are all plans of
-// the database. If it fails, the rows stay.
+// the database (only clause `cause` needs this: *AreAwaited*). If it fails, the rows stay. A crash leaves the
+// old rows or the new ones.
 fn migrate_rows<S: Alter>(
     alloc: Global,
     connection: &mut Connection<S>,
@@ -170,8 +174,8 @@ fn empty_old_tables<S: Alter>(tx: &mut Transaction<'_, S>) -> Result<(), Error>
     empty_old_spans(tx)
 }
 
-/// Adds the rows of `plans` in `volume2` and `span2`, within a transaction. Their rows in `plan` are there
-/// already.
+/// Adds the rows of `plans` in `volume2` and `span2`, within a transaction. The premise of clause `cause`: no
+/// such row has their keys yet, their rows in `plan` are there, and rowids are left (*AreWritable*).
 ///
 /// # Errors
 ///
@@ -194,8 +198,8 @@ pub fn write_plans<S: Alter>(
     Ok(())
 }
 
-// Adds the rows of `plan` in `volume2` and `span2`, within a transaction. Its row in the table `plan` is
-// there already. It fails as `write_plans` does.
+// Adds the rows of `plan` in `volume2` and `span2`, within a transaction. It fails as `write_plans` does. The
+// clauses `cause` and `left` have the premise there, for `plan` and any `later` ones.
 fn write_plan<S: Alter>(
     alloc: Global,
     tx: &mut Transaction<'_, S>,
@@ -274,7 +278,7 @@ fn read_old_heads_alone<S: Alter>(
 }
 
 /// Whether `volume2` and `span2`, which only schema 2 has, are without rows. One that isn't among `made` has
-/// none.
+/// none. It fails with `OutOfMemory` if memory runs out, and with `Store` for another cause.
 #[tactic(auto, using(crate::proofs::lemmas::Frame::reads_then))]
 pub(crate) fn are_new_tables_empty<S: Alter>(
     connection: &mut Connection<S>,

@@ -1,7 +1,8 @@
 //! Which part of a database is invalid: an administrator is shown it if files were refused. It is found
 //! afterwards, by the checks that refuse a database, in their order. Nothing is changed. Contracts say that a
-//! part which is named is invalid, but not that an invalid part is always named. Schema 1 is the older one,
-//! with its rows in `volume` and `span`; schema 2 has them in `volume2` and `span2`.
+//! part which is named is invalid, if the disk returned what was written and no error has shut the
+//! connection, but not that an invalid part is always named. Schema 1 is the older one, with its rows in
+//! `volume` and `span`; schema 2 has them in `volume2` and `span2`.
 
 ghost use Rattle.std.specs.Prelude.{◌≡◌, ◌≢◌, ◌⊎◌, List, true, false, IfErr, IfOk, IfSome, OnOk};
 ghost use Rattle.sqlite_value.specs.Order.{Row as Values};
@@ -78,7 +79,7 @@ impl<D: Disk> Named<D> {
 }
 
 /// Finds the first invalid part of the database in the files at `path`. No table or row is changed; a WAL is
-/// made if there is none. `start` stands for what the files held, which only contracts read.
+/// made if there is none. Only contracts read `start`: what the files held.
 ///
 /// # Errors
 ///
@@ -114,9 +115,9 @@ pub fn find_invalid<S: Alter>(alloc: Global, connection: &mut Connection<S>) -> 
         return Some(InvalidPart::NoTable);
     }
     if old {
-        old_fault(alloc, connection, made)
+        invalid_in_schema_1(alloc, connection, made)
     } else {
-        new_fault(alloc, connection, made)
+        invalid_in_schema_2(alloc, connection, made)
     }
 }
 
@@ -124,7 +125,7 @@ pub fn find_invalid<S: Alter>(alloc: Global, connection: &mut Connection<S>) -> 
 // operators, plans and volumes are tested first, then spans, then covers. `None` if all are valid, or if the
 // database can't be read or memory runs out.
 #[tactic(auto, using(crate::proofs::lemmas::Frame::reads_then, crate::proofs::lemmas::Opening::part_on))]
-fn new_fault<S: Alter>(
+fn invalid_in_schema_2<S: Alter>(
     alloc: Global,
     connection: &mut Connection<S>,
     made: TablesPresent,
@@ -149,9 +150,10 @@ fn new_fault<S: Alter>(
 }
 
 // The first invalid part of a database with rows of schema 1, which has the tables `made`: `BothSchemas` if
-// there are also rows of schema 2, else the first among the rows of schema 1. `None` as in `new_fault`.
+// there are also rows of schema 2, else the first among the rows of schema 1. `None` as in
+// `invalid_in_schema_2`.
 #[tactic(auto, using(crate::proofs::lemmas::Opening::some_operators, crate::proofs::NamedLemmas::moving_named))]
-fn old_fault<S: Alter>(
+fn invalid_in_schema_1<S: Alter>(
     alloc: Global,
     connection: &mut Connection<S>,
     made: TablesPresent,
@@ -165,14 +167,14 @@ fn old_fault<S: Alter>(
     if !are_new_tables_empty(connection, made).ok()? {
         return Some(InvalidPart::BothSchemas);
     }
-    old_rows_fault(alloc, connection, made)
+    invalid_old_rows(alloc, connection, made)
 }
 
 // The first invalid part among the rows of schema 1, if there are none of schema 2. The database has the
 // tables `made`. The rows of operators, plans and volumes are tested first, then spans, then the limits of
-// schema 1. `None` as in `new_fault`.
+// schema 1. `None` as in `invalid_in_schema_2`.
 #[tactic(auto, using(crate::proofs::lemmas::Frame::reads_then, crate::proofs::lemmas::Opening::part_on))]
-fn old_rows_fault<S: Alter>(
+fn invalid_old_rows<S: Alter>(
     alloc: Global,
     connection: &mut Connection<S>,
     made: TablesPresent,

@@ -25,7 +25,7 @@ use volume4d::laws::covers_are_few;
 /// Loads the state of a packed file without rows of schema 1, and rebuilds its tables in canonical order. It
 /// returns the state, the indexes in memory, and whether there is an operator (no contract says this).
 /// `NotADesk` if the rows aren't those of a valid state; `OutOfMemory` or `Store` as in `load_world`. If it
-/// fails, the file stays packed.
+/// fails, the file stays packed. A crash leaves it packed, or in canonical order with the same state.
 pub(crate) fn load_and_reorder<S: Alter>(
     alloc: Global,
     connection: &mut Connection<S>,
@@ -47,7 +47,8 @@ pub(crate) fn load_and_reorder<S: Alter>(
 }
 
 // Rebuilds the tables in canonical order, in one transaction: `volume2` and `span2` are made anew, with the
-// rows of `plans`, which are all plans of the file. If it fails, the tables stay as they were.
+// rows of `plans`, which are all plans of the file (only clause `cause` needs this: *IsToOrder*). If it
+// fails, the tables stay as they were. A crash leaves the old tables or the new ones.
 fn reorder_tables<S: Alter>(
     alloc: Global,
     connection: &mut Connection<S>,
@@ -74,7 +75,8 @@ fn reorder_tables<S: Alter>(
 }
 
 /// Rebuilds the tables of a packed file in canonical order, in one transaction. The rows of `volume2` and
-/// `span2` are lost: a migration calls it while there are none. If it fails, the tables stay as they were.
+/// `span2` are lost: a migration calls it while there are none. If it fails, the tables stay as they were. A
+/// crash leaves the old tables or the new ones. Clause `cause` needs spans that fit the indexes.
 pub(crate) fn rebuild_alone<S: Alter>(connection: &mut Connection<S>) -> Result<(), OpenFault>
     requires part { ShowsPart S.Store connection.old TablesPresent.Packed }
     ensures done { HasCleanDisk (state S.Store connection.new)

@@ -41,7 +41,8 @@ impl<D: Disk> NotOpened<D> {
 }
 
 /// Connects to the database in `files`, which are open. `OutOfMemory` if memory runs out, and `Store` if
-/// SQLite fails for another cause. For contracts, the error has the files as they were left.
+/// SQLite fails for another cause. If the disk returned what was written, the connection shows their
+/// database. For contracts, the error has the files as they were left.
 pub(crate) fn connect_over<D: Disk + Drop>(
     alloc: Global,
     files: Files<D>,
@@ -64,9 +65,9 @@ pub(crate) fn connect_over<D: Disk + Drop>(
     }
 }
 
-/// Opens the database file at `path` and its WAL. Each of the two that isn't there is made. `start` stands
-/// for what they held. `OutOfMemory` if memory runs out. `Store` if `path` is `:memory:` or begins with
-/// `file:`, which SQLite doesn't read as paths, or if the files can't be opened for another cause.
+/// Opens the database file at `path` and its WAL. Each of the two that isn't there is made. `OutOfMemory` if
+/// memory runs out. `Store` if `path` is `:memory:` or begins with `file:`, which SQLite doesn't read as
+/// paths, or if the files can't be opened for another cause. In the contract, the fault is one of these two.
 pub(crate) fn open_pair<S: Start>(
     rt: &HostRuntime,
     path: &str,
@@ -92,7 +93,7 @@ pub(crate) fn open_pair<S: Start>(
 
 /// The options of a connection: after how many frames its WAL is checkpointed, and the seed for the salts of
 /// the WAL. The seed is the hash of a constant under a random key of the operating system; `Store` if that
-/// fails.
+/// fails. No contract speaks of the seed.
 pub(crate) fn options<D: Disk>(rt: &HostRuntime) -> Result<Options, NotOpened<D>>
     ensures frames { IfOk result (λ options. options.checkpoint_frames ≡ log_frames) }
     ensures fault { IfErr result (λ it. IsUnread it.fault) }

@@ -2,7 +2,7 @@
 //! and compared with the plans. A row stands for a slab: one range of leaves (S2 cells of level 30, by their
 //! positions along the curve) of one volume of a plan, with the volume's altitudes and times. A volume's
 //! place is its number in its plan, counted from 0. A live plan is one that isn't closed; a closed one has no
-//! rows.
+//! rows. `AllocError` means that memory ran out.
 
 ghost use Rattle.std.specs.Prelude.{◌≡◌, ◌≢◌, ◌↔◌, ◌<◌, ◌+◌, ◌-◌, ◌^◌, true, false, IsTrue, IfOk, IfErr, OnOk, List, [], ◌∷◌, ◌++◌, drop};
 ghost use Rattle.sqlite_value.specs.Order.{Row as Columns};
@@ -154,7 +154,7 @@ impl Cursor {
     }
 
     // Whether `row` is the next expected row: that of the next slab. If it is, moves past this slab. False
-    // also if no row is expected any more.
+    // also if no row is expected any more. The contract says nothing of the cursor after false.
     fn take_if_next(&mut self, plans: &[FiledPlan], row: &Row) -> Result<bool, AllocError>
         ensures { IfOk result (IsNextRow plans.now self.old self.new row.now) }
     {
@@ -206,7 +206,7 @@ impl SpanCheck {
     }
 
     // Counts `row`, makes the span bounds hold for its span, and compares it with the next expected row
-    // unless an earlier row already differed. `AllocError` if memory runs out, or if there are 2^63 rows.
+    // unless an earlier row already differed. `AllocError` also if there are 2^63 rows.
     fn add(&mut self, row: &Row) -> Result<(), AllocError>
         ensures taken { OnOk result ((rows : List Columns) → WereCompared self.old rows
             → WereCompared self.new (rows ++ row.now ∷ [])) }
@@ -292,8 +292,9 @@ pub(crate) fn take_spans<S: Alter>(
     }
 }
 
-/// The fault for an error of a query that is read row by row: `OutOfMemory` if memory ran out, or if there
-/// are too many rows to count; else `Store`.
+/// The fault for an error of a query that is read row by row: `OutOfMemory` for SQLite's errors `OutOfMemory`
+/// and `TooBig`, else `Store`. The contract says less: these two errors don't become `Store`, and no error
+/// becomes `NotADesk` or `OldSchema`. (`TooBig` also comes if there are too many rows to count.)
 pub(crate) fn fault_of(error: Error) -> OpenFault
     ensures store { result ≡ OpenFault.Store → (error ≢ Error.SqliteFailure ErrorCode.OutOfMemory)
         × (error ≢ Error.SqliteFailure ErrorCode.TooBig) }

@@ -2,8 +2,8 @@
 //! version 2 (in `volume2` or `span2`).
 //!
 //! In a packed file, which lists all tables before the indexes, `volume2` and `span2` have other b-trees than
-//! in canonical order. Each query fails only if memory runs out, the disk fails or has failed, or the
-//! connection's step limit is met.
+//! in canonical order. No transaction may be open. Each query fails only if memory runs out, the disk fails
+//! or has failed, or the connection's step limit is met.
 
 ghost use Rattle.std.specs.Prelude.{◌≡◌, ◌&&◌, true};
 ghost use Rattle.desk_sql.specs.{Schema.HasTable, Schema.has_table, Schema.tree_of, Rows.IsMadeTo, Rows.has_new_rows, Rows.has_old_rows, Rows.has_rows, Rows.tables_at, Queries.WasOpen, Queries.Answers, Effects.IsReady};

@@ -74,8 +74,8 @@ impl TablesPresent {
 }
 
 /// Which tables and indexes of the schema the database has. `None` if it has others that don't stand apart,
-/// or lists the schema's in an order that is neither canonical nor packed. No transaction may be open. It
-/// changes nothing.
+/// or lists the schema's in an order that is neither canonical nor packed. The contract says so if the disk
+/// returned what was written and the connection is open. No transaction may be open. It changes nothing.
 ///
 /// # Errors
 ///

@@ -39,7 +39,8 @@ fn next_step(made: TablesPresent) -> Option<(TablesPresent, &'static str)>
 
 /// Makes the tables and indexes that are missing beside `made`, one statement after the other, within a
 /// transaction. The rows of the others stay. `made` is what the database has now, and neither `All` nor
-/// `Packed`. If it fails, nothing is committed.
+/// `Packed`. If it fails, nothing is committed. Only memory, the disk, the connection's step limit, or a row
+/// of spans that is too long for its index (*HasSmallSpans*) makes it fail.
 pub(crate) fn make_rest<S: Alter>(
     tx: &mut Transaction<'_, S>,
     made: TablesPresent,

@@ -34,7 +34,8 @@ struct Rowids {
 
 impl Rowids {
     // Checks the rowid in the first column of `row` against the one before. Once a check has failed, nothing
-    // more is checked.
+    // more is checked. So the fields say afterwards of any `rest` of the rows what they said before of `row`
+    // and this rest: whether their rowids rise.
     fn add(&mut self, row: &Row)
         ensures { (rest : List Values) → (self.new.rise && rises rest self.new.last)
             ≡ (self.old.rise && rises (row.now ∷ rest) self.old.last) }

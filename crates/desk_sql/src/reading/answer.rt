@@ -1,4 +1,5 @@
-//! All rows of a query with parameters, as a list.
+//! All rows of a query with parameters, as a list. No transaction may be open. What is said of rows holds if
+//! the disk returned what was written.
 
 ghost use Rattle.desk_sql.specs.{Rows.tables_of, Rows.Lists, Rows.IsDesk, Effects.IsReady, Queries.WasOpen, Queries.Answers, Queries.order_of, Queries.rows_of};
 

@@ -1,4 +1,5 @@
-//! All rows of a query without parameters, as a list.
+//! All rows of a query without parameters, as a list. No transaction may be open. What is said of rows holds
+//! if the disk returned what was written.
 
 ghost use Rattle.std.specs.Prelude.{[], OnOk};
 ghost use Rattle.sqlite.specs.{State.Shown, Held.state};
@@ -8,7 +9,7 @@ use crate::laws::committed_and_sound;
 use sqlite::{Alter, Connection, Error, Row};
 
 /// Runs the SQL query `query`, which has no parameters, and returns all its rows. The query has to be valid
-/// under the database's schema. It changes no row, even if it fails.
+/// under the database's schema (*IsSure*). It changes no row, even if it fails.
 ///
 /// # Errors
 ///

@@ -1,7 +1,6 @@
-//! The spans of one plan.
-//!
-//! A span is a run of leaf positions that follow each other on the S2 curve. Its row in `span2` also has the
-//! altitudes, the times and the priority of the plan's volume to which it belongs.
+//! The spans of one plan. A span is a run of leaf positions that follow each other on the S2 curve. Its row
+//! in `span2` also has the altitudes, the times and the priority of the plan's volume to which it belongs. No
+//! transaction may be open. What is said of rows holds if the disk returned what was written.
 
 ghost use Rattle.std.specs.Prelude.{[], filter, map, IsPermutation};
 ghost use Rattle.desk_sql.specs.{Rows.columns_from_first, Rows.tables_of, Rows.IsDesk, Rows.is_plan_span, Effects.IsReady, Queries.WasOpen, Queries.HandsOut};
@@ -12,8 +11,9 @@ use crate::reading::taking::{RowVisitor, for_each_row};
 use sqlite::{Alter, Connection, Error};
 
 /// Passes to `visitor` the spans of the operator's plan `id` that `span_filter` selects. `visitor` gets the
-/// columns from `first` to `priority` of each row of `span2`, the rows in no given order. They are looked up
-/// by key, so that no row of another plan is read. `visitor` must not have taken a row before.
+/// columns from `first` to `priority` of each row of `span2`, the rows in no given order. `visitor` must not
+/// have taken a row before. SQLite finds them by key and reads no row of another plan; the contract doesn't
+/// say this.
 ///
 /// # Errors
 ///

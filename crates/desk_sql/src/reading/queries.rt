@@ -1,4 +1,5 @@
-//! The queries of an open store for plans. Columns are counted from 0.
+//! The queries of an open store for plans. Columns are counted from 0. No transaction may be open. What is
+//! said of rows holds if the disk returned what was written.
 
 ghost use Rattle.std.specs.Prelude.{[], ◌∷◌, filter};
 ghost use Rattle.desk_sql.specs.Rows.{is_row_by, is_of, tables_of, with_volumes, Lists, IsDesk};

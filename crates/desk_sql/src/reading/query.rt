@@ -1,7 +1,6 @@
-//! The queries with parameters: their SQL, and the values of the parameters.
-//!
-//! A span filter (`SpanFilter`) has seven parameters, `?1` to `?7`: its `last`, `first`, `upper`, `lower`,
-//! `stop`, `start` and `priority`. Columns are counted from 0.
+//! The queries with parameters: their SQL, and the values of the parameters. A span filter (`SpanFilter`) has
+//! seven parameters, `?1` to `?7`: its `last`, `first`, `upper`, `lower`, `stop`, `start` and `priority`.
+//! Columns are counted from 0.
 
 ghost use Rattle.std.specs.Prelude.{◌≡◌, [], ◌∷◌, ℕ, ℤ, List, filter, map};
 ghost use Rattle.sqlite.specs.declared.types.Value.TheVariants.{Text};

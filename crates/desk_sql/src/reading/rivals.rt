@@ -1,7 +1,7 @@
-//! The spans of other plans that may block a plan.
-//!
-//! A span is a run of leaf positions that follow each other on the S2 curve. Its row in `span2` also has the
-//! altitudes, the times and the priority of the plan's volume to which it belongs.
+//! The spans of other plans that may block a plan. A span is a run of leaf positions that follow each other
+//! on the S2 curve. Its row in `span2` also has the altitudes, the times and the priority of the plan's
+//! volume to which it belongs. No transaction may be open. What is said of rows holds if the disk returned
+//! what was written.
 
 ghost use Rattle.std.specs.Prelude.{[], filter, map, IsPermutation};
 ghost use Rattle.desk_sql.specs.{Rows.is_rival_from, Rows.columns_from_first, Rows.tables_of, Rows.IsDesk, Effects.IsReady, Queries.WasOpen, Queries.HandsOut};
@@ -26,8 +26,9 @@ pub struct SpanFilter {
 
 /// Passes to `visitor` the spans of all plans but the operator's plan `id` that `span_filter` selects and
 /// that begin at the leaf position `low` or later (the filter's `first` bounds where they end). `visitor`
-/// gets the columns from `first` to `priority` of each row of `span2`, the rows in no given order. Rows that
-/// begin before `low` or after `span_filter.last` aren't read. `visitor` must not have taken a row before.
+/// gets the columns from `first` to `priority` of each row of `span2`, the rows in no given order. `visitor`
+/// must not have taken a row before. SQLite reads no row that begins before `low` or after
+/// `span_filter.last`; the contract doesn't say this.
 ///
 /// # Errors
 ///

@@ -1,4 +1,5 @@
-//! The rows of a query, passed on one at a time to a visitor.
+//! The rows of a query, passed on one at a time to a visitor. What is said of the query's rows holds if the
+//! disk returned what was written.
 //!
 //! A call fails with an SQLite error if memory runs out, the disk fails or has failed, or the connection's
 //! step limit is met. It also fails with an error of the visitor for the row that it gets.
@@ -75,7 +76,8 @@ fn visit_next<S: Alter, T: RowVisitor>(
 }
 
 // Passes each row that is left to `visitor`. An error is one of the query, one of `visitor` for a row, or
-// `TooBig` if there are 2^64 - 1 rows or more: counting them makes sure that the loop ends.
+// `TooBig` if there are 2^64 - 1 rows or more: counting them makes sure that the loop ends. If the disk
+// returned what was written so far, the connection has to be open.
 // Long: what is passed, and what holds whatever bytes the disk returned.
 fn visit_all<S: Alter, T: RowVisitor>(rows: &mut Rows<'_, S>, visitor: &mut T) -> Result<(), Error>
     requires { HasCleanDisk (state S.Store rows.old.conn.now)
@@ -98,7 +100,8 @@ fn visit_all<S: Alter, T: RowVisitor>(rows: &mut Rows<'_, S>, visitor: &mut T) -
 }
 
 /// Runs the SQL query `sql` with the parameters `params`, and passes each row to `visitor`, which must not
-/// have taken a row before. It changes no row, even if it fails.
+/// have taken a row before. The query has to be valid under the database's schema, with these parameters
+/// (*IsSureGiven*), and no transaction may be open. It changes no row, even if it fails.
 ///
 /// # Errors
 ///
@@ -131,7 +134,7 @@ pub(crate) fn visit_rows<S: Alter, T: RowVisitor>(
 }
 
 /// Runs `query` and passes each row to `visitor`, in the order that the query asks for. `visitor` must not
-/// have taken a row before. It changes no row, even if it fails.
+/// have taken a row before, and no transaction may be open. It changes no row, even if it fails.
 ///
 /// # Errors
 ///

@@ -1,7 +1,7 @@
-//! All rows of `volume2`, as they are read when a store is opened.
-//!
-//! A file in canonical order lists tables and indexes as the desk makes them; a packed file lists all tables
-//! before the indexes. So `volume2` has another b-tree in a packed file, and the same name and columns.
+//! All rows of `volume2`, as they are read when a store is opened. A file in canonical order lists tables and
+//! indexes as the desk makes them; a packed file lists all tables before the indexes. So `volume2` has
+//! another b-tree in a packed file, and the same name and columns. What is said of rows holds if the disk
+//! returned what was written.
 
 ghost use Rattle.std.specs.Prelude.{◌≡◌, Bool, true, List, [], ◌∷◌, map, OnOk};
 ghost use Rattle.sqlite.specs.Order.{Row as Values};
@@ -36,7 +36,8 @@ fn volumes_text() -> &'static str
 
 /// Passes all rows of `volume2` to `visitor`, ordered by their key `operator`, `id`, `place`. Their further
 /// columns are `lower`, `upper`, `start`, `stop`, `asked` and `canon`. `made` are the tables that the
-/// database has; without `volume2` there are no rows. `visitor` must not have taken a row before.
+/// database has; without `volume2` there are no rows, and SQLite isn't asked. `visitor` must not have taken a
+/// row before, and no transaction may be open.
 ///
 /// # Errors
 ///

@@ -1,7 +1,7 @@
-//! All rows of a table, as they are read when a store is opened.
-//!
-//! A file in canonical order lists tables and indexes as the desk makes them; a packed file lists all tables
-//! before the indexes. So `span2` has another b-tree in a packed file, and the same name and columns.
+//! All rows of a table, as they are read when a store is opened. A file in canonical order lists tables and
+//! indexes as the desk makes them; a packed file lists all tables before the indexes. So `span2` has another
+//! b-tree in a packed file, and the same name and columns. What is said of rows holds if the disk returned
+//! what was written.
 
 ghost use Rattle.std.specs.Prelude.{◌≡◌, true, OnOk, List, []};
 ghost use Rattle.sqlite.specs.Order.{Row as Values};
@@ -100,7 +100,7 @@ fn spans_text() -> &'static str
 }
 
 /// All rows of `whole_table`, ordered by its key. `made` are the tables that the database has; without this
-/// table there are no rows, and the list is empty, with the allocator `alloc`.
+/// table SQLite isn't asked, and the list is empty, with the allocator `alloc`. No transaction may be open.
 ///
 /// # Errors
 ///
@@ -127,7 +127,8 @@ pub fn all_rows<S: Alter>(
 }
 
 /// Passes all rows of `whole_table` to `visitor`, ordered by its key. `made` are the tables that the database
-/// has; without this table there are no rows. `visitor` must not have taken a row before.
+/// has; without this table there are no rows, and SQLite isn't asked. `visitor` must not have taken a row
+/// before, and no transaction may be open.
 ///
 /// # Errors
 ///

@@ -1,5 +1,5 @@
 //! Changes of a store's tables. Columns of rows are counted from 0. A parameter `next` is the state of the
-//! database after a change, which only contracts read.
+//! database after a change, which only contracts read. The disk is intact if it returned what was written.
 
 ghost use Rattle.std.specs.Prelude.{◌≡◌, ◌<◌, ◌^◌, pos, IfOk, IfErr};
 ghost use Rattle.sqlite_value.specs.declared.value.Value.TheVariants.{Int};
@@ -31,13 +31,14 @@ use sqlite_trees::store::Alter;
 use volume4d::laws::covers_are_few;
 
 impl<S: Alter> DeskTables<S> {
-    /// Applies `change`, which has to fit the state, in one transaction. `span_bounds` hold for the spans of
-    /// the live plans before the change; the returned ones also hold for those that it adds.
+    /// Applies `change` in one transaction; it has to fit the state, if the disk is intact. `span_bounds`
+    /// hold for the spans of the live plans before the change; the returned ones also for those that it adds.
     ///
     /// # Errors
     ///
-    /// `OutOfMemory` if memory runs out. `Store` if SQLite fails for another cause, or if the row of a plan
-    /// to be closed isn't that of a plan. The tables then have the state that they had.
+    /// `OutOfMemory` if memory runs out. `Store` if SQLite fails for another cause, or if a plan to be closed
+    /// has no row or an invalid one. The state stays then, but a crash may leave the changed one. If the disk
+    /// is intact, the connection open and rowids are left, `Store` means that the disk failed.
     pub(crate) fn make(
         &mut self,
         span_bounds: &SpanBounds,
@@ -66,7 +67,8 @@ impl<S: Alter> DeskTables<S> {
         GhostState::after(&self.kept, change)
     }
 
-    // Adds `operator` with `ceiling`, or replaces its ceiling if it is there; `next` is the state after that.
+    // Adds `operator` with `ceiling`, or replaces its ceiling if it is there. It fails as `make` does. Clause
+    // `cause` needs a rowid that is left.
     fn enrol(
         &mut self,
         operator: &Operator,
@@ -83,8 +85,8 @@ impl<S: Alter> DeskTables<S> {
     }
 
     // Stores the plan `row` with its volumes and, if it is live, their spans, in place of the operator's plan
-    // of the same id, if there is one. `next` is the state after that. Returns span bounds that hold for the
-    // spans for which `span_bounds` hold, and for those of `row`.
+    // of the same id, if there is one. Returns span bounds that hold for the spans for which `span_bounds`
+    // hold, and for those of `row`. It fails as `make` does. Clause `cause` needs rowids that are left.
     fn put(
         &mut self,
         span_bounds: &SpanBounds,
@@ -120,9 +122,8 @@ impl<S: Alter> DeskTables<S> {
         advance_if_committed(&mut self.kept, committed, next, after, self.reported)
     }
 
-    // Closes the operator's plan `id`: its usage changes, and its spans are removed; all else of it stays.
-    // Its row is written whole, so its priority and the state of its aircraft are read first. `next` is the
-    // state after that. `Store` also if the plan has no row, or one that isn't that of a plan.
+    // Closes the operator's plan `id`: its usage becomes Closed, its spans are removed, all else stays. Its
+    // row is written whole, so its priority and aircraft state are read first. It fails as `make` does.
     fn close(
         &mut self,
         operator: &Operator,
@@ -151,7 +152,7 @@ impl<S: Alter> DeskTables<S> {
         advance_if_committed(&mut self.kept, committed, next, (), self.reported)
     }
 
-    // Removes the operator's plans `ids` with all their rows; `next` is the state after that.
+    // Removes the operator's plans `ids` with all their rows. It fails as `make` does.
     fn clear(
         &mut self,
         operator: &Operator,
@@ -168,8 +169,8 @@ impl<S: Alter> DeskTables<S> {
     }
 }
 
-// The priority (column 2) and the number that stands for the state of the aircraft (column 4) in `head`, a
-// row of `plan`. `Store` if one of them isn't an unsigned number of 32 bits.
+// The priority (column 2) and the number for the state of the aircraft (column 4) in `head`, a row of `plan`.
+// `Store` if one isn't an unsigned number of 32 bits; the contract: then `head` is no plan's row.
 fn numbers_in(head: &Row) -> Result<(u32, u32), StoreFault>
     ensures priority { IfOk result (λ found. column head.now 2 ≡ Int (pos found.0)) }
     ensures aircraft { IfOk result (λ found. column head.now 4 ≡ Int (pos found.1)) }
@@ -182,7 +183,8 @@ fn numbers_in(head: &Row) -> Result<(u32, u32), StoreFault>
 }
 
 // If SQLite committed a change, as `committed` says, `kept` becomes `next`, and `answer` is returned. Else
-// `kept` stays, and the fault for SQLite's error is returned, with an I/O error as `reported`.
+// `kept` stays, and the fault for SQLite's error is returned, with an I/O error as `reported`; in the
+// contract: not `Store` if memory ran out.
 fn advance_if_committed<T: Copy>(
     kept: &mut GhostState,
     committed: Result<(), Error>,

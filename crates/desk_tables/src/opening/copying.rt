@@ -1,4 +1,7 @@
-//! Writes a database state, that is, operators with their ceilings and their plans, into a new database.
+//! Writes a state (operators with their ceilings, and their plans) into a new database. A head is the row of
+//! a plan in `plan`, without volumes and spans. The clauses `cause` say, under a premise, that `Store` means
+//! a disk that failed or a step limit, if the disk returned what was written and the connection is open.
+//! Labels such as `'plans:` only name loops, for proofs.
 
 ghost use Rattle.std.specs.Prelude.{◌≡◌, List, ◌∷◌, false, IfOk, IfErr, OnOk, None};
 ghost use Rattle.sqlite.specs.{State.HasCleanDisk, Held.state};
@@ -29,14 +32,13 @@ use table_load::finding::create_tables;
 use table_load::moving::write_plans;
 use volume4d::laws::covers_are_few;
 
-/// Makes a store with the state `content` over a connection to a database that has to have no table; `known`
-/// are the indexes in memory of this state. The tables are made in one transaction, and all rows are added in
-/// another.
+/// Makes a store with the state `content` over a connection to a database without tables. `known` are the
+/// indexes in memory of this state. The tables are made in one transaction, all rows in another.
 ///
 /// # Errors
 ///
 /// The connection, and `OutOfMemory` if memory runs out; `Store` if there is a table, or if SQLite fails for
-/// another cause. The database may have tables then.
+/// another cause. No contract says what the database has then; it may have tables.
 // Long: the facts on the state, the file and the store have clauses of their own.
 pub(crate) fn store_of<S: Alter + Drop>(
     alloc: Global,
@@ -62,9 +64,8 @@ pub(crate) fn store_of<S: Alter + Drop>(
     }
 }
 
-// Makes the tables in a database that has to have none, and adds all rows of `content`; returns this state.
-// `Store` if there is a table, or if SQLite fails; `OutOfMemory` if memory runs out. The database may have
-// tables without rows then.
+// Makes the tables in a database that has none, and adds all rows of `content`; returns this state. It fails
+// as `store_of` does.
 fn make_world<S: Alter>(
     alloc: Global,
     connection: &mut Connection<S>,
@@ -86,7 +87,8 @@ fn make_world<S: Alter>(
     Ok(GhostState::of(content))
 }
 
-// Checks that the database has no table; `Store` if it has one. It changes nothing.
+// Checks that the database has no table, and changes nothing. `Store` if it has one, or if SQLite fails;
+// `OutOfMemory` if memory runs out.
 fn require_blank<S: Alter>(connection: &mut Connection<S>) -> Result<(), OpenFault>
     requires rest { IsAtRest connection.old }
     ensures blank { OnOk result (Holds S.Store connection.new (IsMadeTo TablesPresent.Nothing)) }
@@ -103,7 +105,8 @@ fn require_blank<S: Alter>(connection: &mut Connection<S>) -> Result<(), OpenFau
     Ok(())
 }
 
-// Adds all rows of `operators` and `plans` to tables without rows, in one transaction.
+// Adds all rows of `operators` and `plans` to a desk's tables, in one transaction. The premise of clause
+// `cause`: the tables have no row yet, and the state is valid (*CanBeFilled*).
 // Long: success, failure and its cause, and the end of the transaction have a clause each.
 fn fill<S: Alter>(
     alloc: Global,
@@ -130,7 +133,7 @@ fn fill<S: Alter>(
     Ok(())
 }
 
-// Adds all rows of `operators` and `plans` to tables without rows, within a transaction.
+// Adds all rows of `operators` and `plans`, within a transaction. Clause `cause` has `fill`'s premise.
 fn write_world<S: Alter>(
     alloc: Global,
     tx: &mut Transaction<'_, S>,
@@ -155,7 +158,8 @@ fn write_world<S: Alter>(
     write_plans(alloc, tx, plans)
 }
 
-// Adds the rows of `operators` to the table `operator`, within a transaction. They must not be there yet.
+// Adds the rows of `operators` to the table `operator`, within a transaction. The premise of clause `cause`:
+// no row has their names yet, and rowids are left.
 fn write_operators<S: Alter>(
     tx: &mut Transaction<'_, S>,
     operators: &[ListedOperator],
@@ -175,8 +179,8 @@ fn write_operators<S: Alter>(
     Ok(())
 }
 
-// Adds the row of the operator `listed` to the table `operator`, within a transaction. It must not be there
-// yet.
+// Adds the row of `listed` to `operator`, within a transaction. The clauses `cause` and `left` have the
+// premise of `write_operators`, for `listed` and any `later` ones.
 // Long: what it adds, and that there is room for the rows that the next calls add.
 fn write_operator<S: Alter>(
     tx: &mut Transaction<'_, S>,
@@ -200,8 +204,9 @@ fn write_operator<S: Alter>(
     Ok(())
 }
 
-// Adds the rows of `plans` to the table `plan`, within a transaction. They must not be there yet. Their
-// volumes and spans are added later.
+// Adds the heads of `plans`, within a transaction; their volumes and spans are added later. An error is that
+// memory ran out, or, on the premise of clause `cause`, that the disk failed or a step limit was met. The
+// premise: no row of `plan` has their keys yet, their operators are there, and rowids are left.
 fn write_heads<S: Alter>(tx: &mut Transaction<'_, S>, plans: &[FiledPlan]) -> Result<(), OpenFault>
     requires under_way { IsUnderWay S.Store tx.old.conn.now }
     ensures same_reference { tx.new.conn.ghost_name ≡ tx.old.conn.ghost_name }
@@ -218,8 +223,8 @@ fn write_heads<S: Alter>(tx: &mut Transaction<'_, S>, plans: &[FiledPlan]) -> Re
     Ok(())
 }
 
-// Adds the row of `plan` to the table `plan`, within a transaction. It must not be there yet. Its volumes and
-// spans are added later.
+// Adds the head of `plan`, within a transaction; its volumes and spans are added later. The clauses `cause`
+// and `left` have the premise of `write_heads`, for `plan` and any `later` ones.
 // Long: what it adds, and that there is room for the rows that the next calls add.
 fn write_head<S: Alter>(tx: &mut Transaction<'_, S>, plan: &FiledPlan) -> Result<(), OpenFault>
     requires under_way { IsUnderWay S.Store tx.old.conn.now }

@@ -60,8 +60,7 @@ pub enum CopyFault<D: Disk, E: Disk> {
 }
 
 impl<S: Start> SqliteStore<FileStore<FileFrom<S>>> {
-    /// Opens the store over the database in the files at `path`, as `adopt` does. The files are made if they
-    /// aren't there. `start` stands for what they held.
+    /// Opens the store over the database in the files at `path`, as `adopt` does. Missing files are made.
     ///
     /// # Errors
     ///
@@ -91,8 +90,7 @@ impl<S: Start> SqliteStore<FileStore<FileFrom<S>>> {
     }
 
     /// Opens the store over the database in the files at `path`, which it migrates if it is of schema 1, as
-    /// `adopt_old` does. Also returned is how many plans were migrated. `start` stands for what the files
-    /// held.
+    /// `adopt_old` does. Also returned is how many plans were migrated.
     ///
     /// # Errors
     ///
@@ -123,8 +121,8 @@ impl<S: Start> SqliteStore<FileStore<FileFrom<S>>> {
 }
 
 impl SqliteStore<FileStore<FileFrom<Unknown>>> {
-    /// As `open_from`, over files of which contracts know nothing. A torn write is assumed to leave each byte
-    /// old or new.
+    /// As `open_from`, but the contracts can name no contents: they take the files as new (*no_files*). A
+    /// torn write is assumed to leave each byte old or new.
     ///
     /// # Errors
     ///
@@ -142,8 +140,8 @@ impl SqliteStore<FileStore<FileFrom<Unknown>>> {
         SqliteStore::open_from(rt, path, Unknown)
     }
 
-    /// As `migrate_from`, over files of which contracts know nothing. A torn write is assumed to leave each
-    /// byte old or new.
+    /// As `migrate_from`, but the contracts can name no contents: they take the files as new (*no_files*). A
+    /// torn write is assumed to leave each byte old or new.
     ///
     /// # Errors
     ///
@@ -163,8 +161,8 @@ impl SqliteStore<FileStore<FileFrom<Unknown>>> {
     }
 }
 
-/// The statistics of the database in the files at `path`, with the connection that read it. `start` stands
-/// for what the files held. No table or row is changed. A WAL is made if there is none.
+/// The statistics of the database in the files at `path`, with the connection that read it. No table or row
+/// is changed. A WAL is made if there is none.
 ///
 /// # Errors
 ///
@@ -186,7 +184,7 @@ pub fn look_at<S: Start>(
 
 /// Copies the state of the database in the files at `path` into new files at `to`; returns the connection to
 /// the first, the store over the new ones, and the statistics of the state. In the first files no table or
-/// row is changed. `start` stands for what the first files held, and `other` for what the new ones held.
+/// row is changed. `other` is the `start` of the new files.
 ///
 /// # Errors
 ///
@@ -213,7 +211,7 @@ pub fn copy_from<S: Start, N: Start>(
 }
 
 // Makes the store with the state that was read, `found`, in new files at `to`; returns what `copy_from` does.
-// `other` stands for what the new files held. Its error is `Unmade`, with the connection of `found`.
+// Its error is `Unmade`, with the connection of `found`.
 fn copy_read<D: Disk + Drop, N: Start>(
     rt: &HostRuntime,
     found: ReadFiles<FileStore<D>>,
@@ -238,8 +236,8 @@ fn copy_read<D: Disk + Drop, N: Start>(
     }
 }
 
-// Reads the state of the database in the files at `path`; returns it with the connection. `start` stands for
-// what the files held. It fails as `look_at` does.
+// Reads the state of the database in the files at `path`; returns it with the connection. It fails as
+// `look_at` does.
 fn read_at<S: Start>(
     rt: &HostRuntime,
     path: &str,
@@ -284,9 +282,8 @@ fn read_connected<D: Disk + Drop>(
     }
 }
 
-// Makes a store with the state `content` in new files at `path`; `known` are the indexes in memory of this
-// state. `start` stands for what the files held. `Store` if there is a file at `path`, if the files have a
-// table, or if SQLite fails; `OutOfMemory` if memory runs out.
+// Makes a store with the state `content` in new files at `path`. `Store` if there is a file at `path`, if the
+// files have a table, or if SQLite fails; `OutOfMemory` if memory runs out.
 fn store_at<S: Start>(
     rt: &HostRuntime,
     path: &str,
@@ -311,8 +308,7 @@ fn store_at<S: Start>(
     }
 }
 
-// Makes a store with the state `content` in the new files that `connection` has open; `known` are the indexes
-// in memory of this state. It fails as `store_of` does.
+// Makes a store with the state `content` in the new files that `connection` has open, as `store_of` does.
 fn store_files<D: Disk + Drop>(
     alloc: Global,
     connection: Connection<FileStore<D>>,

@@ -26,8 +26,7 @@ const SEED: u64 = 1;
 // How many pages of a store in memory are cached, so that not each read copies them from the file.
 const CACHED_PAGES: usize = 2048;
 
-// The page size of a store in memory. A commit writes, digests and copies whole pages, so that small ones are
-// faster; several entries of the index over the leaves of spans fit into one.
+// The page size of a store in memory: small, since a commit writes, digests and copies whole pages.
 const PAGE: usize = 1024;
 
 // The beginning of a database of one such page and without tables (the SQLite file format, sections 1.3 and
@@ -64,9 +63,10 @@ impl SqliteStore<FileStore<Ram>> {
 
 impl<S: Alter> SqliteStore<S> {
     /// Opens the store over a connection. Missing tables are made; those of a packed file are rebuilt in
-    /// canonical order, in one transaction. If the disk returns what was written, the store has the state
-    /// whose rows the tables have, which is empty if there was no table. A step limit of the connection (on
-    /// the rows that a statement visits) is lifted.
+    /// canonical order, in one transaction. If the disk returns what was written and the connection was open,
+    /// the store has the state whose rows the tables have, which is empty if there was no table. A crash then
+    /// leaves the database as it was, or with all tables and this state (`cut`). A step limit of the
+    /// connection (on the rows that a statement visits) is lifted.
     ///
     /// # Errors
     ///
@@ -109,7 +109,8 @@ impl<S: Alter> SqliteStore<S> {
 
     /// Opens the store over a connection as `adopt` does, but migrates a database of schema 1: its rows are
     /// replaced by those of the same state in schema 2, in one transaction. Also returned is how many plans
-    /// were migrated: 0 if the database is of schema 2, and at most 2^32 - 1.
+    /// were migrated: 0 if the database is of schema 2, and at most 2^32 - 1. Under the premise there, a
+    /// crash leaves the database as it was, or as a desk's with the same state in one schema.
     ///
     /// # Errors
     ///

@@ -1,6 +1,7 @@
 //! The slabs of other plans that overlap an extent, read by one query for each range of leaves at which they
-//! may begin. A slab is one range of leaves (S2 cells of level 30, by their positions along the curve), with
-//! one range of altitudes and one of times. An extent is a slab of which is asked what plans hold in it.
+//! may begin. A slab is one range of leaves (S2 cells of level 30 along the curve), one of altitudes and one
+//! of times. An extent is a slab of which is asked what plans hold in it. What is read is that of the state,
+//! if the disk returned what was written. A live plan isn't closed.
 
 ghost use Rattle.std.specs.Prelude.{◌<◌, IfSome, IsTrue, OnOk, length};
 ghost use Rattle.std.specs.List.{AllByRecursion};
@@ -46,8 +47,8 @@ impl<S: Alter> DeskTables<S> {
         self.query_all(wanted, extent, &queries)
     }
 
-    // Runs `query_one` for each range of leaves in `queries`; returns the slabs that they find, in this
-    // order.
+    // Runs `query_one` for each range of leaves in `queries`; returns all slabs that they find. The contract
+    // leaves the order of the slabs open. The first query that fails ends it.
     #[tactic(auto, using(table_load::proofs::lemmas::Frame::reads_then))]
     fn query_all(
         &mut self,
@@ -71,7 +72,7 @@ impl<S: Alter> DeskTables<S> {
     }
 
     // Runs one query for slabs of the plans that `wanted` selects: those that begin at a leaf of the range
-    // `query` and overlap `extent`.
+    // `query` and overlap `extent`. `wanted` leaves out one plan of an operator, or without an id all.
     fn query_one(
         &mut self,
         wanted: &Wanted,

@@ -1,6 +1,6 @@
-//! The slabs of other operators' plans. A slab is one range of leaves (S2 cells of level 30, by their
-//! positions along the curve), with one range of altitudes and one of times. An extent is a slab of which is
-//! asked what plans hold in it.
+//! The slabs of other operators' plans. A slab is one range of leaves (S2 cells of level 30 along the curve),
+//! one of altitudes and one of times. An extent is a slab of which is asked what plans hold in it. What is
+//! read is that of the state, if the disk returned what was written. A live plan isn't closed.
 
 ghost use Rattle.std.specs.Prelude.{◌≡◌, None, cond};
 ghost use Rattle.volume4d.specs.{Volume.Point, Slab.slabs_have, Slab.top_held};
@@ -56,7 +56,7 @@ impl<S: Alter> DeskTables<S> {
     }
 
     // Reads slabs that have, at each point of `regions`, the greatest priority of other operators' live plans
-    // there, and no point outside `regions`.
+    // there, and no point outside `regions`. It fails as `held_by_others` does.
     #[tactic(auto, using(table_load::proofs::lemmas::Frame::reads_then))]
     fn held_in_regions(
         &mut self,

@@ -1,6 +1,7 @@
-//! The slabs of a few plans, whose spans are looked up by their keys. A slab is one range of leaves (S2 cells
-//! of level 30, by their positions along the curve), with one range of altitudes and one of times. An extent
-//! is a slab of which is asked what plans hold in it.
+//! The slabs of a few plans, whose spans are looked up by their keys: operator and id. A slab is one range of
+//! leaves (S2 cells of level 30 along the curve), one of altitudes and one of times. An extent is a slab of
+//! which is asked what plans hold in it. What is read is the state's, if the disk returned what was written.
+//! A live plan isn't closed.
 
 ghost use Rattle.std.specs.Prelude.{◌≡◌, ◌+◌, ◌-◌, ◌^◌, min, nat_le, true, if◌then◌else◌};
 ghost use Rattle.volume4d.specs.{Volume.Point, Slab.slabs_have, Slab.top_held};
@@ -66,8 +67,7 @@ impl<S: Alter> DeskTables<S> {
     ///
     /// # Errors
     ///
-    /// `OutOfMemory` if memory runs out. `Store` if SQLite fails for another cause, or if a row isn't that of
-    /// a slab.
+    /// Those of `held_near`.
     #[tactic(auto, using(table_load::proofs::lemmas::Frame::reads_then))]
     pub(crate) fn held_by_plans(
         &mut self,
@@ -87,7 +87,7 @@ impl<S: Alter> DeskTables<S> {
     }
 
     // Reads the slabs of the plan with the key `key` that overlap `extent`, if its priority is at least
-    // `least`.
+    // `least`. It fails as `held_near` does.
     fn held_by_plan(
         &mut self,
         key: &PlanKey,

@@ -1,6 +1,7 @@
-//! What a store reads from its tables. Columns of rows are counted from 0. A slab is one range of leaves (S2
-//! cells of level 30, by their positions along the curve), with one range of altitudes and one of times. An
-//! extent is a slab of which is asked what plans hold in it.
+//! What a store reads from its tables: what the state has, if the disk returned what was written
+//! (*ReadsWorld*). Columns of rows are counted from 0. A slab is one range of leaves (S2 cells of level 30
+//! along the curve), one of altitudes and one of times. An extent is a slab of which is asked what plans hold
+//! in it. A head is the row of a plan in `plan`, without its volumes. A live plan isn't closed.
 
 ghost use Rattle.std.specs.Prelude.{◌≡◌, ◌≢◌, ◌<◌, ◌^◌, List, IfErr, IfOk, IsOk, OnOk, map};
 ghost use Rattle.std.specs.{List.AllByRecursion, List.AllZip, Result.IsErrAnd};
@@ -28,7 +29,7 @@ use std::alloc::Global;
 use volume4d::{Held, Slab};
 
 impl<S: Alter> DeskTables<S> {
-    /// The row of the table `plan` for the operator's plan `id`; no row if the plan isn't stored.
+    /// The head of the operator's plan `id`; no row if the plan isn't stored.
     ///
     /// # Errors
     ///
@@ -48,7 +49,7 @@ impl<S: Alter> DeskTables<S> {
     }
 
     // The rows of `volume2` for the operator's plan `id`, ordered by place (column 2); no row if the plan
-    // isn't stored.
+    // isn't stored. It fails as `head_rows` does.
     fn volumes(&mut self, operator: &Operator, id: &PlanId) -> Result<Vec<Row>, StoreFault>
         ensures { ReadsPlans S.Store self.old self.new result (λ rows. IsContent self.old.world
             × (rows.items ≡ volume_rows (own_of operator.now id.now self.old.world))) }
@@ -99,8 +100,8 @@ impl<S: Alter> DeskTables<S> {
 
     /// Reads slabs that have, at each point of `extents`, the greatest priority of the live plans there that
     /// `wanted` selects. Outside `extents` the slabs mean nothing. The index `known.live` finds the plans
-    /// with a volume near `extents`: if reading them costs few rows (`max_rows`), only their rows are read;
-    /// else all rows near the one slab around all `extents`.
+    /// with a volume near `extents`: if reading them costs few rows (`max_rows_beside`), only their rows are
+    /// read; else all rows near the one slab around all `extents`.
     ///
     /// # Errors
     ///
@@ -134,7 +135,8 @@ impl<S: Alter> DeskTables<S> {
 }
 
 // The plan whose row of `plan` is `head`, and whose rows of `volume2` are `rows`, in which a volume begins at
-// column 3 (`lower`). `Store` if they aren't those of a valid plan; `OutOfMemory` if memory runs out.
+// column 3 (`lower`). `Store` if they aren't those of a valid plan; `OutOfMemory` if memory runs out. The
+// contract doesn't say that all other rows are refused: it says that those of a plan give this plan.
 fn plan_of_rows(alloc: Global, head: &Row, rows: &[Row]) -> Result<PlanRow, StoreFault>
     ensures value { IfOk result (λ plan. (p : Plan) → IsId p.id → IsHead head.now p
         → AllByRecursion IsValidVolume p.area → AllZip (λ row v. IsVolumeAt row 3 v) rows.now p.area

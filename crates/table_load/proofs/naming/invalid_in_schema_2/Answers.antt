@@ -4,7 +4,7 @@ use Rattle.table_load.specs.OpeningSteps.{AreGoodHeads}
 use Rattle.table_load.specs.SpanChecks.{HasChecked}
 use Rattle.table_load.proofs.HeadLemmas.{of_plans}
 use Rattle.table_load.proofs.NamedLemmas.{spans_named}
-use Rattle.table_load.proofs.naming.new_fault.Goals as goal
+use Rattle.table_load.proofs.naming.invalid_in_schema_2.Goals as goal
 
 pub returns-in-Ok-take_spans-clause-shows : goal.returns-in-Ok-take_spans-clause-shows
 returns-in-Ok-take_spans-clause-shows g c =
