@@ -1,4 +1,4 @@
-"""What giving_up and held share: the code of the program's sources, and lists of functions that were looked at.
+"""What giving_up and host share: the code of the program's sources; and a list of functions that were looked at.
 
 A line of a list is a file, a function (`use` for an import) and a sum of its code, whatever its layout, and of the
 constants of its file that it names. Above the lines stands why they are right. What is in no function, shown as `- -`,
