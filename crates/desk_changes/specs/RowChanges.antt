@@ -5,7 +5,7 @@ use Rattle.sqlite.specs.{declared.types.Value.TheVariants.Blob, declared.types.V
 use Rattle.desk_sql.specs.{Rows.Tables, Rows.VolumeColumns, Rows.SpanColumns, Rows.is_of, Rows.is_not_of, Rows.left_without, Rows.volume_row, Rows.cover_row, Rows.span_row, Rows.IsDesk, Rows.tables_of, Rows.is_row_by, Rows.operator_row, Rows.plan_row, Rows.AddsOperator, Rows.AddsPlan, Rows.AddsVolume, Rows.AddsSpan, Rows.SetsOperators, Rows.SetsPlans, Rows.RemovesPlan, Rows.RemovesSpans, Rows.RemovesOldVolumes, Rows.RemovesOldSpans, Changing.HasKey, Changing.HasRowids, Changing.IsShort, Changing.LacksKey, Changing.has_same_key, Changing.AreLow, Changing.FitsOperator, Changing.FitsPlan, Changing.FitsVolume, Changing.FitsSpan, Changing.IsSureChange, Statements.MayCount, Statements.MayWrite, Statements.Changes}
 use Rattle.desk_changes.specs.declared.{writing.VolumeRecord.VolumeRecord, writing.SpanRecord.SpanRecord, writing.PlanRecord.PlanRecord, change.RowChange.RowChange, change.RowChange.TheVariants.AddOperator, change.RowChange.TheVariants.AddPlan, change.RowChange.TheVariants.AddVolume, change.RowChange.TheVariants.AddSpan, change.RowChange.TheVariants.SetCeiling, change.RowChange.TheVariants.SetClosed, change.RowChange.TheVariants.RemovePlan, change.RowChange.TheVariants.RemoveSpans, change.RowChange.TheVariants.EmptyOldVolumes, change.RowChange.TheVariants.EmptyOldSpans}
 
--- the columns of a record of a volume, without `canon`
+-- the columns of a record without `canon`; its row without `canon`; its row with the key and `canon` alone
 abbrev pub volume_columns : VolumeRecord → VolumeColumns
 volume_columns v = record {
   operator = v.operator.now;
@@ -18,19 +18,17 @@ volume_columns v = record {
   asked = v.asked.now;
 }
 
--- the row of `volume2` of a record, without `canon`
 abbrev pub volume_row_in : VolumeRecord → Row
 volume_row_in v = volume_row (volume_columns v)
 
--- the cover of a record: the key of its row of `volume2`, and `canon` alone
 abbrev pub cover_of : VolumeRecord → Row
 cover_of v = cover_row v.operator.now v.id.now v.place v.canon.now
 
--- the row of `volume2` of a record, with `canon`
+-- the whole row of `volume2`
 abbrev pub volume_params : VolumeRecord → Row
 volume_params v = volume_row_in v ++ Blob v.canon.now ∷ []
 
--- the columns of a record of a span
+-- the columns and the row of a record
 abbrev pub span_columns : SpanRecord → SpanColumns
 span_columns s = record {
   operator = s.operator.now;
@@ -45,7 +43,6 @@ span_columns s = record {
   priority = s.priority;
 }
 
--- the row of `span2` of a record
 abbrev pub span_row_in : SpanRecord → Row
 span_row_in s = span_row (span_columns s)
 
@@ -60,8 +57,7 @@ abbrev pub AddsSpans : List Row → Tables → Tables → Type 0
 AddsSpans rows old new = IsPermutation (rows ++ old.spans) new.spans
     × (new ≡ record old { spans = new.spans })
 
--- a plan to store: its operator and id, its row, and the rows of its volumes (without `canon`), covers and
--- spans. A cover is a volume's key and `canon`: the ids of the fewest cells with just its footprint's leaves
+-- a plan to store: its operator and id, its row, and the rows of its volumes, covers and spans
 pub record PlanPut : Type 0 where
   pub operator : List ℕ
   pub id : List ℕ
@@ -70,7 +66,7 @@ pub record PlanPut : Type 0 where
   pub covers : List Row
   pub spans : List Row
 
--- the rows of the plan's former version, if it was stored, are removed, and those of `put` are added
+-- the rows of the plan's former version, if there was one, are removed, and those of `put` are added
 pub record PutsPlan (put : PlanPut) (old new : Tables) : Type 0 where
   pub operators : new.operators ≡ old.operators
   pub plans : IsPermutation (put.plan ∷ filter (is_not_of put.operator put.id) old.plans) new.plans
@@ -172,8 +168,7 @@ pub record AreOfPlan (operator id : List ℕ) (width : ℕ) (rows : List Row) : 
   pub own : AllByRecursion (λ r. is_of operator id r ≡ true) rows
   pub apart : HaveOwnKeys width rows
 
--- a plan that can be stored: its operator has a row, the rows are the plan's, each with its own key, no text
--- or blob has over 100 million bytes, and rowids are left
+-- a plan that can be stored: its operator is listed, its rows are its own, and there are rowids for them
 pub record IsPuttable (put : PlanPut) (db : Database) : Type 0 where
   pub operator_short : IsShort put.operator
   pub id_short : IsShort put.id
@@ -186,7 +181,7 @@ pub record IsPuttable (put : PlanPut) (db : Database) : Type 0 where
   pub span_room : HasRoomFor (length put.spans) (db.trees 11)
 
 -- ==== The parameters of each change, what it does, and what it has to fit
--- the row of `plan` of a record
+-- the row of a record
 abbrev pub plan_row_in : PlanRecord → Row
 plan_row_in p = plan_row p.operator.now p.id.now p.priority p.usage p.aircraft
 
@@ -201,11 +196,10 @@ plan_put p volumes spans = record {
   spans = map span_row_in spans;
 }
 
--- the parameters that name a plan
+-- the parameters that name a plan, and below those that close it
 abbrev pub key_row : List ℕ → List ℕ → Row
 key_row operator id = Text operator ∷ Text id ∷ []
 
--- the parameters that close a plan: its name, the priority, and the state of the aircraft
 abbrev pub closing_row : List ℕ → List ℕ → ℕ → ℕ → Row
 closing_row operator id priority aircraft =
     Text operator ∷ Text id ∷ Int (pos priority) ∷ Int (pos aircraft) ∷ []
@@ -257,7 +251,7 @@ abbrev pub counts : RowChange → ℕ → Tables → Type 0
 counts (SetCeiling name ceiling) count t = count ≡ length (filter (is_row_by name.now) t.operators)
 counts _ count t = ⊤
 
--- how many rowids a change uses, if a caller needs it; `SetCeiling` uses none if there is no such operator
+-- how many rowids a change uses; nothing is said where no caller needs it
 abbrev pub takes : RowChange → Trees → Trees → Type 0
 takes (AddOperator name ceiling) old new = TakesOperators 1 old new
 takes (AddPlan p) old new = TakesRoom 1 0 0 old new
@@ -282,7 +276,7 @@ pub record Does (text : List ℕ) (params : Row) (Change : Tables → Tables →
 abbrev pub IsTextOf : RowChange → List ℕ → Type 0
 IsTextOf change text = Does text (given_to change) (changes change) (fits change) (takes change) (counts change)
 
--- ---- *IsTextOf* for each change with names and numbers as parameters: the text is a statement that does it
+-- ---- the same for each change that has names and numbers as parameters
 abbrev pub DoesAddOperator : List ℕ → ℕ → List ℕ → Type 0
 DoesAddOperator name ceiling text =
     Does text (operator_row name ceiling) (AddsOperator (operator_row name ceiling))

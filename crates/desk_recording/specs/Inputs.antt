@@ -20,7 +20,7 @@ abbrev pub recorded_as : Bool → Noted → Recorded
 recorded_as false n = Open n
 recorded_as true n = Ended n.text
 
--- the journal with its text, if that is known: open, or ended if the port is broken
+-- the same, if the text is known
 abbrev pub recorded_by : Bool → Option Noted → Option Recorded
 recorded_by is_broken noted = option_map (λ n. recorded_as is_broken n) noted
 
@@ -28,7 +28,7 @@ recorded_by is_broken noted = option_map (λ n. recorded_as is_broken n) noted
 abbrev pub reported_by : {R F : Type 0} → Ghosts R F → R → Bool → Traffic
 reported_by g journal is_broken = traffic_of (g.steps journal) (recorded_by is_broken (g.noted journal))
 
--- what a recorded port reports, by its journal and by whether it is broken
+-- what this port reports
 abbrev pub reported_of : {P R F : Type 0} → Ghosts R F → RecordedPort P R → Traffic
 reported_of g port = reported_by g port.journal (is_some port.broken)
 
@@ -119,7 +119,7 @@ pub record IsPlayRecorded (H : Type 0) (play : PlayArgs) (o : InputOutside) (w a
     pub ends : EndsWith (exit_of_play o.stopped o.unframed done) o.end
     pub played : IsInputPlayed H done play o.port w after
 
--- as `IsPlayRecorded`; and the content `found` is one that the next start may find
+-- the same, and the content `found` is one that the next start may find
 pub record IsRecordedKept (H : Type 0) (play : PlayArgs) (o : InputOutside) (w after : DeskWorld)
     (found : Option World) : Type 0 where
   pub done : Result ⊤ ErrorCode
@@ -180,7 +180,7 @@ pub record AddsPlayed (n : Noted) (text : List ℕ) (added : List EntryParts) (s
   pub plays : played s added ≡ Ok left
   pub now : IsPlayedTo left after
 
--- as `AddsPlayed`; and the journal stays open with this text
+-- the same, and the journal stays open with this text
 pub record AddsOpen (n : Noted) (now : Option Recorded) (added : List EntryParts) (s : State)
     (after : DeskWorld) : Type 0 where
   pub m : Noted
@@ -233,8 +233,8 @@ pub record EndsPlayed (n : Noted) (now : Option Recorded) (xs : List Exchange)
   pub finds : (found : Option World) → IsFoundServed xs last after found
       → CatchesUp found after newly_enrolled moment request left.world ⊎ IsLeftByNews after found last
 
--- as `EndsPlayed`; and a desk that starts with the content `found` comes to that world too; or an operator of
--- the last new enrolments could not be enrolled
+-- the same, and a desk that starts with the content `found` comes to that world too; or an operator of the
+-- last new enrolments could not be enrolled
 pub record EndsFound (n : Noted) (now : Option Recorded) (xs : List Exchange) (last : Option (List Enrolment))
     (s : State) (after : DeskWorld) (found : Option World) : Type 0 where
   pub ended : EndsPlayed n now xs last s after

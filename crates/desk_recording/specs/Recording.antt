@@ -80,7 +80,7 @@ Notes None now done next = ⊤
 Notes (Some n) now true next = now ≡ Some (next n)
 Notes (Some n) now false next = HasText now n.text
 
--- as `Notes`; but after a failure the text may be extended all the same
+-- the same; but after a failure the text may be extended all the same
 abbrev pub NotesOnDisk : Option Noted → Option Noted → Bool → (Noted → Noted) → Type 0
 NotesOnDisk None now done next = ⊤
 NotesOnDisk (Some n) now true next = now ≡ Some (next n)
@@ -110,7 +110,6 @@ pub record Client : Type 0 where
   pub unread : Option (List ℕ)
   pub sent : Option (List ℕ)
 
--- a client with these bytes still unread, and these bytes sent to it
 abbrev pub client_of : Option (List ℕ) → Option (List ℕ) → Client
 client_of unread sent = record { unread = unread; sent = sent }
 

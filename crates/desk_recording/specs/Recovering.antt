@@ -89,7 +89,6 @@ pub record Undone : Type 0 where
   pub missing : List Enrolment
   pub asked : Option UnansweredParts
 
--- the value of `Undone` with these settings, these operators and this request
 abbrev pub undone : Terms → List Enrolment → Option UnansweredParts → Undone
 undone terms missing asked = record { terms = terms; missing = missing; asked = asked }
 
@@ -115,8 +114,7 @@ module _ (H : Type 0) where
     pub kept : steps.after ≡ steps.before
     pub listed : AreEnrolledSoFar H u.missing (on_terms world.before u.terms) world.after
 
-  -- the result of a recovery: the operators are enrolled and the request is repeated, or why that failed; or
-  -- an operator could not be enrolled
+  -- the result of a recovery: one or the other
   abbrev pub Recovers : Undone → Course DeskWorld → Course (Option (List Step)) → Result ⊤ ErrorCode → Type 0
   Recovers u world steps (Ok done) = IsRecovered u world steps (Ok done)
   Recovers u world steps (Err f) = IsRecovered u world steps (Err f) ⊎ IsNotRecovered u world steps f

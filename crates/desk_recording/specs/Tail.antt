@@ -24,16 +24,15 @@ pub record TailParts : Type 0 where
   pub asked : Option UnansweredParts
   pub size : ℕ
 
--- a pending request of the program, in parts
+-- the parts of the program's value
 abbrev pub unanswered_shown : PendingRequest → UnansweredParts
 unanswered_shown u = record { second = u.second; request = u.request.items }
 
--- a pending request of the program, in parts, if there is one
 abbrev pub unanswered_in : Option PendingRequest → Option UnansweredParts
 unanswered_in None = None
 unanswered_in (Some u) = Some (unanswered_shown u)
 
--- what a `Tail` of the program says, in parts
+-- the parts of the program's value
 abbrev pub tail_shown : Tail → TailParts
 tail_shown t = record {
   record_number = t.record;
@@ -59,11 +58,11 @@ empty_tail = record {
 abbrev pub NextTail : Type 0
 NextTail = Option TailParts
 
--- None if the test holds; else `next`
+-- none if the test holds
 abbrev pub none_if : Bool → NextTail → NextTail
 none_if test next = if test then None else next
 
--- what the entries say with the header; None if it isn't the first entry or is of another version
+-- with the header: it is the first entry, and has the version of the format
 unfoldable pub tail_with_header : TailParts → ℕ → List ℕ → NextTail
 tail_with_header t n bytes =
     none_if (is_some t.record_number || not (bytes_eq bytes version))
@@ -75,25 +74,25 @@ tail_with_permitted_list t more (Err fault) = None
 tail_with_permitted_list t more (Ok permitted) =
     Some (record t { permitted = more; terms = record t.terms { permitted = permitted } })
 
--- what the entries say with one more permitted priority; None if it isn't valid there
+-- with one more permitted priority
 unfoldable pub tail_with_permitted : TailParts → ℕ → NextTail
 tail_with_permitted t p =
     none_if (nat_lt max_priority p)
     (tail_with_permitted_list t (t.permitted ++ (p ∷ [])) (permitted_in (t.permitted ++ (p ∷ []))))
 
--- what the entries say with this limit on spans; None if it is 0 or too great
+-- with a limit on spans
 unfoldable pub tail_with_spans : TailParts → ℕ → NextTail
 tail_with_spans t n =
     none_if (not (nat_le 1 n && nat_le n max_spans))
     (Some (record t { terms = record t.terms { spans = Some n } }))
 
--- what the entries say with this limit on cells; None if it is 0 or too great
+-- with a limit on cells
 unfoldable pub tail_with_cells : TailParts → ℕ → NextTail
 tail_with_cells t n =
     none_if (not (nat_le 1 n && nat_le n max_total_cells))
     (Some (record t { terms = record t.terms { cells = Some n } }))
 
--- what the entries say with one more operator; None if its name or its ceiling isn't valid
+-- with one more operator
 unfoldable pub tail_with_operator : TailParts → ℕ → List ℕ → NextTail
 tail_with_operator t ceiling name =
     none_if (not (is_operator_name name)) (none_if (nat_lt max_priority ceiling)
@@ -121,7 +120,7 @@ tail_with_answer_to t (Some u) second answer =
 unfoldable pub tail_with_answer : TailParts → ℕ → List ℕ → NextTail
 tail_with_answer t second answer = tail_with_answer_to t t.asked second answer
 
--- None if the entry has bytes of its own; else `next`
+-- none if the entry has bytes of its own
 abbrev pub tail_if_bare : List ℕ → NextTail → NextTail
 tail_if_bare bytes next = none_if (not (length bytes == 0)) next
 

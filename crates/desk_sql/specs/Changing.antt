@@ -9,11 +9,11 @@ use Rattle.sqlite_catalog.specs.Change.{without_table, without_index, KeepsRows}
 use Rattle.desk_sql.specs.{Schema.beside_of, Schema.desk_in, Schema.IsDeskSchema, Schema.schema_of, Schema.packed_schema, Schema.old_span_first, Rows.IsDesk, Rows.is_same, Rows.tables_of, Rows.IsMadeTo, Rows.Tables, Rows.tables_at, Rows.old_tables_of, Statements.enforced, Statements.Extends, Statements.IsWriting, Statements.MayWrite, declared.opening.finding.TablesPresent.TablesPresent, declared.opening.finding.TablesPresent.TheVariants.Nothing, declared.opening.finding.TablesPresent.TheVariants.Operators, declared.opening.finding.TablesPresent.TheVariants.Plans, declared.opening.finding.TablesPresent.TheVariants.OldVolumes, declared.opening.finding.TablesPresent.TheVariants.OldSpans, declared.opening.finding.TablesPresent.TheVariants.OldIndex, declared.opening.finding.TablesPresent.TheVariants.Volumes, declared.opening.finding.TablesPresent.TheVariants.Spans, declared.opening.finding.TablesPresent.TheVariants.All, declared.opening.finding.TablesPresent.TheVariants.Packed}
 
 -- ---- what SQLite can store
--- a text or blob has at most 100 million bytes; SQLite stores rows of a billion
+-- at most 100 million bytes; SQLite stores rows of a billion
 abbrev pub IsShort : List ℕ → Type 0
 IsShort text = length text ≤ 10 ^ 8
 
--- the rowids fit 64 bits, as all do that SQLite gives (`db.trees 2` has the rows of `plan`)
+-- the rowids fit 64 bits (`db.trees 2` has the rows of `plan`)
 abbrev pub AreLow : List Row → Type 0
 AreLow rows = AllByRecursion (λ r. fits_i64 (id_in (rowid r)) ≡ true) rows
 
@@ -28,11 +28,10 @@ pub record HasRowids (count : ℕ) (rows : List Row) : Type 0 where
 abbrev pub has_same_key : ℕ → Row → Row → Bool
 has_same_key width a b = list_all (λ at. is_same (column a at) (column b at)) (range_with_len 0 width)
 
--- one of the rows has the key of `row`
+-- one of the rows has the key of `row`; below, none has it
 abbrev pub HasKey : ℕ → Row → List Row → Type 0
 HasKey width row rows = list_any (λ r. has_same_key width r row) rows ≡ true
 
--- none of the rows has the key of `row`
 abbrev pub LacksKey : ℕ → Row → List Row → Type 0
 LacksKey width row rows = list_any (λ r. has_same_key width r row) rows ≡ false
 
@@ -40,22 +39,20 @@ LacksKey width row rows = list_any (λ r. has_same_key width r row) rows ≡ fal
 abbrev pub IsNewRow : ℕ → Row → List Row → List Row → Type 0
 IsNewRow width row stored shown = HasRowids 1 stored × LacksKey width row shown
 
--- ---- what each INSERT needs: short texts and blobs, a rowid left, a new key, its operator or plan stored
--- what a new row of `operator` (b-tree 0) needs; its key is its first column, the name
+-- ---- what fits each INSERT
+-- what a new row of `operator` (b-tree 0), `plan` (2), `volume2` (9) and `span2` (11) needs: short texts, a
+-- rowid that is left, a new key, and that its operator or plan is stored
 abbrev pub FitsOperator : List ℕ → Row → Database → Type 0
 FitsOperator name row db = IsShort name × IsNewRow 1 row (db.trees 0) (tables_of db.trees).operators
 
--- what a new row of `plan` (b-tree 2) needs; its key is its first two columns
 abbrev pub FitsPlan : List ℕ → List ℕ → Row → Database → Type 0
 FitsPlan operator id row db = IsShort operator × IsShort id
     × IsNewRow 2 row (db.trees 2) (tables_of db.trees).plans × HasKey 1 row (tables_of db.trees).operators
 
--- what a new row of `volume2` (b-tree 9) needs; its key is its first three columns
 abbrev pub FitsVolume : List ℕ → List ℕ → List ℕ → List ℕ → Row → Database → Type 0
 FitsVolume operator id asked canon row db = IsShort operator × IsShort id × IsShort asked × IsShort canon
     × IsNewRow 3 row (db.trees 9) (tables_of db.trees).volumes × HasKey 2 row (tables_of db.trees).plans
 
--- what a new row of `span2` (b-tree 11) needs; its key is its first four columns
 abbrev pub FitsSpan : List ℕ → List ℕ → Row → Database → Type 0
 FitsSpan operator id row db = IsShort operator × IsShort id
     × IsNewRow 4 row (db.trees 11) (tables_of db.trees).spans × HasKey 2 row (tables_of db.trees).plans
@@ -106,7 +103,7 @@ left_to_make All = 0
 left_to_make Packed = 0
 
 -- ---- what stops a step
--- a value is no fraction, and a text or blob has at most 100 million bytes
+-- no fraction, and texts and bytes of at most 100 million bytes
 abbrev pub IsSmall : Value → Type 0
 IsSmall Null = ⊤
 IsSmall (Int n) = ⊤
@@ -114,7 +111,7 @@ IsSmall (Real x) = ⊥
 IsSmall (Text text) = IsShort text
 IsSmall (Blob bytes) = IsShort bytes
 
--- each value of the rows is small (*IsSmall*)
+-- so is each value of the rows
 abbrev pub AreSmall : List Row → Type 0
 AreSmall rows = AllByRecursion (λ r. AllByRecursion IsSmall r) rows
 

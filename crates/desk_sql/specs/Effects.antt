@@ -66,7 +66,7 @@ module _ {S : Type 0} (g : Ghosts S) (old new : Held S) where
     pub now : (state g new).now ≡ (state g old).now
     pub committed : (state g new).committed ≡ (state g old).committed
 
-  -- the connection shows what it showed, if the disk is clean and the connection open
+  -- the same, if the disk is clean and the connection open
   abbrev pub StaysShown : Type 0
   StaysShown = HasCleanDisk (state g new) → IsTrue (state g new).is_open → ShowsAsBefore
 

@@ -6,11 +6,10 @@ use Rattle.sqlite.specs.{Ops.is_null, Order.Row, Order.column, Order.value_cmp, 
 use Rattle.desk_sql.specs.{declared.opening.finding.TablesPresent.TablesPresent, declared.opening.finding.TablesPresent.TheVariants.Nothing, declared.opening.finding.TablesPresent.TheVariants.Operators, declared.opening.finding.TablesPresent.TheVariants.Plans, declared.opening.finding.TablesPresent.TheVariants.OldVolumes, declared.opening.finding.TablesPresent.TheVariants.OldSpans, declared.opening.finding.TablesPresent.TheVariants.OldIndex, declared.opening.finding.TablesPresent.TheVariants.Volumes, declared.opening.finding.TablesPresent.TheVariants.Spans, declared.opening.finding.TablesPresent.TheVariants.All, declared.opening.finding.TablesPresent.TheVariants.Packed, declared.opening.numbers.DeskTable.DeskTable, declared.opening.numbers.DeskTable.TheVariants.PackedVolume, declared.opening.numbers.DeskTable.TheVariants.Volume, declared.reading.rivals.SpanFilter.SpanFilter, Schema.IsDeskSchema, Schema.IsSchemaOf, Schema.tree_of, Schema.has_table}
 
 -- ---- what a row holds
--- the row of `operator` with these values
+-- the rows of `operator`, and of `plan`, with these values
 abbrev pub operator_row : List ℕ → ℕ → Row
 operator_row name ceiling = Text name ∷ Int (pos ceiling) ∷ []
 
--- the row of `plan` with these values
 abbrev pub plan_row : List ℕ → List ℕ → ℕ → ℕ → ℕ → Row
 plan_row operator id priority usage aircraft =
     Text operator ∷ Text id ∷ Int (pos priority) ∷ Int (pos usage) ∷ Int (pos aircraft) ∷ []
@@ -57,7 +56,7 @@ span_row s =
 abbrev pub is_text : Value → List ℕ → Bool
 is_text v text = is_eq (value_cmp v (Text text))
 
--- whether a row is an operator's: its first column is the operator's name
+-- the first column: the name of an operator, or of the operator whose row it is
 abbrev pub is_row_by : List ℕ → Row → Bool
 is_row_by operator row = is_text (column row 0) operator
 
@@ -170,8 +169,7 @@ AddsVolume row cover old new = IsPermutation (row ∷ old.volumes) new.volumes
 abbrev pub AddsSpan : Row → Tables → Tables → Type 0
 AddsSpan row old new = IsPermutation (row ∷ old.spans) new.spans × (new ≡ record old { spans = new.spans })
 
--- the rows that are left if the plan is removed: those of other plans, or all if the plan isn't stored, since
--- rows go only with a row of `plan` (ON DELETE CASCADE)
+-- the rows that are left if the plan is removed: those of other plans, or all if the plan isn't stored
 abbrev pub left_without : List ℕ → List ℕ → Tables → List Row → List Row
 left_without operator id old rows =
     if list_any (is_of operator id) old.plans then filter (is_not_of operator id) rows else rows
@@ -234,15 +232,14 @@ pub record AreNumbered (rows : List Row) : Type 0 where
   pub whole : AllByRecursion (λ r. is_int (rowid r) ≡ true) rows
   pub distinct : IsAscending (λ a b. is_eq (value_cmp (rowid a) (rowid b)) ≡ false) rows
 
--- SQL's `a = b`, which isn't true of NULL
+-- SQL's = and <>, which are not true of NULL
 abbrev pub is_same : Value → Value → Bool
 is_same a b = not (is_null a) && is_eq (value_cmp a b)
 
--- SQL's `a <> b` for a `b` other than NULL; it isn't true if `a` is NULL
 abbrev pub differs : Value → Value → Bool
 differs a b = not (is_null a) && not (is_eq (value_cmp a b))
 
--- a joined row: the plan's columns, and then the volume's from `place` on
+-- the plan's columns, and then the volume's from `place` on
 abbrev pub joined : Row → Row → Row
 joined plan volume = plan ++ drop 2 volume
 
@@ -255,19 +252,16 @@ abbrev pub with_volumes : (Row → Bool) → Tables → List Row
 with_volumes wanted t = flat_map (λ p. map (joined p) (filter (has_volume p) t.volumes))
     (filter wanted t.plans)
 
--- SQL's `v <= n`, which isn't true of NULL
+-- SQL's <=, >=, < and > with a number, which are not true of NULL
 abbrev pub is_at_most : Value → ℤ → Bool
 is_at_most v n = not (is_null v) && is_le (value_cmp v (Int n))
 
--- SQL's `v >= n`, which isn't true of NULL
 abbrev pub is_at_least : Value → ℤ → Bool
 is_at_least v n = not (is_null v) && is_ge (value_cmp v (Int n))
 
--- SQL's `v < n`, which isn't true of NULL
 abbrev pub is_below : Value → ℤ → Bool
 is_below v n = not (is_null v) && is_lt (value_cmp v (Int n))
 
--- SQL's `v > n`, which isn't true of NULL
 abbrev pub is_above : Value → ℤ → Bool
 is_above v n = not (is_null v) && is_gt (value_cmp v (Int n))
 
@@ -349,7 +343,7 @@ volume_table_in packed = if packed then PackedVolume else Volume
 abbrev pub volume_part : Row → Row
 volume_part row = map (column row) (range_with_len 0 8)
 
--- the key and `canon` alone of a row of `volume2`
+-- its key and `canon` alone
 abbrev pub cover_part : Row → Row
 cover_part row = map (column row) (0 ∷ 1 ∷ 2 ∷ 8 ∷ [])
 

@@ -341,7 +341,7 @@ has_table Packed desk.PackedVolume = true
 has_table Packed desk.PackedSpan = true
 has_table Packed table = is_old table
 
--- the schema with a table, those made before it, the tables `others`, and these indexes and views
+-- these, with any indexes and views
 abbrev pub schema_to : DeskTable → List Table → List Index → List View → Schema
 schema_to table others indexes views =
     record { tables = tables_to table others; indexes = indexes; views = views }

@@ -36,11 +36,11 @@ pub record IsSureGiven (schema : Schema) (text : List ℕ) (params : Row) : Type
   pub means : IsSureMeaning schema text params (understood schema text)
   pub unlisted : reads_listing schema text ≡ false
 
--- the same for a query without parameters
+-- such a query without parameters
 abbrev pub IsSure : Schema → List ℕ → Type 0
 IsSure schema text = IsSureGiven schema text []
 
--- a query that is sure (*IsSureGiven*) under each desk's schema, whatever stands beside the desk's tables
+-- so it is under each desk's schema, whatever stands beside the desk's tables
 abbrev pub IsSureFor : List ℕ → Row → Type 0
 IsSureFor text params = (schema : Schema) → IsDeskSchema schema → IsSureGiven schema text params
 
@@ -72,7 +72,7 @@ module _ {S : Type 0} (g : Ghosts S) (old new : Held S) where
   IsUnnumbered table e = IsRefusal e ⊎ ((e ≡ SqliteFailure code.DatabaseCorrupt)
       × (¬ AreNumbered ((state g old).now.trees (tree_of table))))
 
-  -- an error as in `IsRefusal`, or `DatabaseCorrupt` if some table's rowids are not whole numbers, each once
+  -- an error as in `IsRefusal`, or `DatabaseCorrupt` if the rowids of some table are not
   abbrev pub AreRowsUnread : Error → Type 0
   AreRowsUnread e = IsRefusal e ⊎ ((e ≡ SqliteFailure code.DatabaseCorrupt) × IsMisnumbered (state g old).now)
 

@@ -13,16 +13,16 @@ use Rattle.table_load.specs.{Opening.BlamesDisk, Files.FindsFirst, Files.IsOfUnr
 use Rattle.desk_tables.specs.declared.opening.files.CopyFault.{CopyFault}
 use Rattle.desk_tables.specs.declared.opening.files.CopyFault.TheVariants as copy
 
--- the database has a table: one of the schema, or another
+-- a table of the schema, or another
 abbrev pub HasTables : Database → Type 0
 HasTables db = HasOthers db ⊎ ((made : TablesPresent) × (made ≢ Nothing) × IsMadeTo made db)
 
--- over a clean disk and an open connection, `Store` means a table, a failed disk or an invalid rowid
+-- why a new database fails: it has a table, or the disk failed
 abbrev pub BlamesNew : {S : Type 0} → Ghosts S → Held S → Held S → OpenFault → Type 0
 BlamesNew g old new e = HasCleanDisk (state g new) → IsTrue (state g new).is_open → e ≡ Store
     → HasTables (state g old).now ⊎ (HasDiskFailed g old new ⊎ IsMisnumbered (state g old).now)
 
--- no store was made over a connection: the fault is `OutOfMemory`, or `Store` with one of these causes
+-- no store of a content was made over a connection
 pub record IsUnmade {S : Type 0} (g : Ghosts S) (old new : Held S) (e : OpenFault) : Type 0 where
   pub fault : IsUnread e
   pub cause : BlamesNew g old new e
@@ -30,7 +30,7 @@ pub record IsUnmade {S : Type 0} (g : Ghosts S) (old new : Held S) (e : OpenFaul
 
 -- ---- over files
 module _ {D : Type 0} {g : disk.Ghosts D} (image : Image) where
-  -- over a clean disk, a connection finds the files' database, which has these rows, and leaves it as it was
+  -- a connection finds the database of the files, which has the rows of this content, and is left as it was
   pub record LooksIn (left : Held (FileStore D g)) (old : Bool) (w : World) : Type 0 where
     pub found : Held (FileStore D g)
     pub opened : HasCleanDisk (file_state left) → FindsFirst image found
@@ -60,7 +60,7 @@ module _ {D : Type 0} {g : disk.Ghosts D} (image : Image) (e : OpenFault) where
     pub cause : BlamesDisk (over_files {D = D} {g = g}) found left e
     pub reads : OnlyReads (over_files {D = D} {g = g}) found left
 
-  -- reading failed over the connection that is left; or the files were not opened, and nothing was read
+  -- reading the files failed, and the connection is left; or they were not opened, and nothing was read
   abbrev pub AreNotRead : Result (Held (FileStore D g)) (NotOpened D g) → Type 0
   AreNotRead (Ok left) = IsUnreadIn left
   AreNotRead (Err it) = IsOfUnreached image e it
@@ -73,7 +73,7 @@ module _ {D : Type 0} {g : disk.Ghosts D} (image : Image) (e : OpenFault) where
     pub fresh : IsNew found
     pub unmade : IsUnmade (over_files {D = D} {g = g}) found left e
 
-  -- no store was made over the connection that is left; or the new files were not opened
+  -- new files in which no store was made; or they were not opened
   abbrev pub AreNotMade : Result (Held (FileStore D g)) (NotOpened D g) → Type 0
   AreNotMade (Ok left) = IsUnmadeIn left
   AreNotMade (Err it) = IsOfUnreached image e it
@@ -112,7 +112,7 @@ pub record AddsOperatorRows (ls : List Listed) (old new : Tables) : Type 0 where
   pub covers : new.covers ≡ old.covers
   pub spans : new.spans ≡ old.spans
 
--- the rows of plans in `plan` are added; those of their volumes and spans are not
+-- the rows of plans in `plan` are added
 pub record AddsHeadRows (ps : List Filed) (old new : Tables) : Type 0 where
   pub operators : new.operators ≡ old.operators
   pub plans : IsPermutation (plan_rows ps ++ old.plans) new.plans

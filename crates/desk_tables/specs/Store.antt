@@ -1,5 +1,4 @@
 -- A store over tables: what contracts see of it, the results of its readers and changes, and why it fails.
--- The disk is clean if it returned what was written so far; it failed if a call to it reported an error.
 use Rattle.std.specs.Prelude.{ℕ, refl, List, ◌≡◌, ◌⊎◌, ◌≤◌, ◌-◌, ◌^◌, IsTrue, length, Result, IfErr, IfOk, ◌≢◌, MatchResult, Ok, OnErr, OnOk, [], ◌∷◌, Option, Some, None, pos, Bool, ◌++◌, take, drop, not, cond, map}
 use Rattle.std.specs.{Coded.Coded, Coded.code_by, Coded.coded×, Coded.coded_ℕ, Result.IsErrAnd, List.find, List.filter, List.list_any, List.AllByRecursion, List.Sorted.IsPermutation}
 use Rattle.sqlite.specs.{Held.Held, Held.held_code, Held.state, State.HasCleanDisk, Effect.Database, Files.FailsToClose, Files.IsClosed, declared.error.Error.Error, declared.error.Error.TheVariants.SqliteFailure}
@@ -54,7 +53,7 @@ pub record HasRoomForPlan (p : Filed) (db : Database) : Type 0 where
   pub spans : (rows : List Row) → ArePlanSpanRows p rows → HasRoomFor (length rows) (db.trees 11)
 
 module _ {S : Type 0} (g : Ghosts S) (old new : Held S) where
-  -- over a clean disk and an open connection, `Store` is answered only if the disk failed meanwhile
+  -- over an open connection, `Store` is answered only if the disk failed
   abbrev pub BlamesStore : StoreFault → Type 0
   BlamesStore e =
       HasCleanDisk (state g new) → IsTrue (state g new).is_open → e ≡ Store → HasDiskFailed g old new
@@ -66,7 +65,7 @@ module _ {S : Type 0} (g : Ghosts S) (old new : Held S) where
   BlamesChange (Close operator id) e = AreLow ((state g old).now.trees 2) → BlamesStore e
   BlamesChange (Clear operator ids) e = BlamesStore e
 
-  -- over a clean disk and an open connection, `Store` means that the disk failed, or that spans are too many
+  -- over an open connection, `Store` is answered only if the disk failed or there are too many spans to count
   abbrev pub BlamesSpans : StoreFault → Type 0
   BlamesSpans e =
       HasCleanDisk (state g new) → IsTrue (state g new).is_open → e ≡ Store →
@@ -85,7 +84,7 @@ module _ {S V : Type 0} (g : Ghosts S) (old new : HeldWorld S) (result : Result 
   abbrev pub ReadsPlans : (V → Type 0) → Type 0
   ReadsPlans Gives = ReadsWorld Gives (BlamesStore g old.held new.held)
 
-  -- the same of a reader that also fails with `Store` if spans are too many to count
+  -- or also if there are more spans than a reader counts
   abbrev pub ReadsSpans : (V → Type 0) → Type 0
   ReadsSpans Gives = ReadsWorld Gives (BlamesSpans g old.held new.held)
 
@@ -93,7 +92,7 @@ module _ {S V : Type 0} (g : Ghosts S) (old new : HeldWorld S) (result : Result 
 abbrev pub spans_shown : {S : Type 0} → Ghosts S → HeldWorld S → List Row
 spans_shown g t = (tables_of (state g t.held).now.trees).spans
 
--- `next` is what the change makes of the world; over a clean disk, the change fits the world
+-- a change that fits the world, if the disk is clean, makes this of it
 pub record IsNext {S : Type 0} (g : Ghosts S) (old : HeldWorld S) (next : World) (change : Change) : Type 0
   where
     pub world : next ≡ changed_by change old.world
@@ -108,8 +107,8 @@ HasFollowed committed answer result old new next =
     (λ error. IsErrAnd result (λ fault. fault ≡ Store → error ≢ SqliteFailure code.OutOfMemory)
     × (new ≡ old))
 
--- the world is the one after the change, or the same as before if it failed. Over a clean disk, what is shown
--- after success is committed, and a crash leaves what it could leave before, or the world after the change
+-- the world is the one after the change, which is committed, or the same as before if it failed; a crash
+-- leaves what it could leave before, or the world after the change
 pub record IsMade {S V : Type 0} (g : Ghosts S) (old new : HeldWorld S) (result : Result V StoreFault)
     (change : Change) : Type 0
   where

@@ -16,9 +16,8 @@ use Rattle.host_files.specs.declared.state.Next.TheVariants as next
 
 -- the answers, by the path that is asked about
 pub record Answers : Type 0 where
-  -- what it leads to
+  -- what it leads to, and what is there itself, which may be a link
   pub found : List ℕ → Result Found ErrorKind
-  -- what is there itself, which may be a link
   pub entry : List ℕ → Result Found ErrorKind
   -- the path with all links resolved
   pub real : List ℕ → Result (List ℕ) ErrorKind
@@ -61,12 +60,11 @@ missing_by kind.NotADirectory = missing.NoFolder
 missing_by kind.PermissionDenied = missing.NoRight
 missing_by _ = missing.Other
 
--- what is at a path, by whether it is a regular file and by its length
+-- what is at a path: by whether it is a regular file and its length, and by the operating system's answer
 abbrev pub place_with : Bool → ℕ → Place
 place_with false len = place.NotRegular
 place_with true len = if len == 0 then place.Empty else place.Filled
 
--- what is at a path, by the operating system's answer
 abbrev pub place_of : Result Found ErrorKind → Place
 place_of (Ok found) = place_with found.is_file found.len
 place_of (Err kind) = place.Nothing (missing_by kind)
@@ -96,12 +94,11 @@ abbrev pub free_or_dead_link : Bool → FileState
 free_or_dead_link true = state.DeadLink
 free_or_dead_link false = state.Free
 
--- why a file can't be opened, by the error of opening it for reading
+-- why a file can't be opened: by the error of opening it for reading, and by that of opening it for writing
 abbrev pub reading_denial : Option ErrorKind → Option Denial
 reading_denial (Some kind.PermissionDenied) = Some denial.NoReading
 reading_denial _ = None
 
--- why a file can't be opened, by the error of opening it for writing
 abbrev pub writing_denial : Option ErrorKind → Option Denial
 writing_denial (Some kind.PermissionDenied) = Some denial.NoWriting
 writing_denial (Some kind.ReadOnlyFilesystem) = Some denial.ReadOnly
@@ -126,7 +123,6 @@ denial_after_open it path unread =
     or_denial (reading_denial unread)
     (or_denial (writing_denial (it.unwritten path)) (it.unheld path))
 
--- why a file can't be opened, by the machine's answers
 abbrev pub access_denial : Answers → List ℕ → Option Denial
 access_denial it path = denial_after_open it path (it.unread path)
 
@@ -153,13 +149,13 @@ IsStateBy it path next.Start now = (begun : Result Start Denial) × (now ≡ sta
 abbrev pub IsStateAt : Answers → List ℕ → Bool → FileState → Type 0
 IsStateAt it path made = IsStateBy it path (next_at (place_of (it.found path)) (is_no_path path) made)
 
--- what may be found at a name that SQLite reads otherwise than as a path, whatever the machine answers
+-- what may be found at a path, whatever the machine answers: for a name that SQLite reads otherwise than as a
+-- path, for any other name, and for both by whether the name is such (true)
 abbrev pub MayFindUnasked : Bool → FileState → Type 0
 MayFindUnasked made state.NoPath = ⊤
 MayFindUnasked made (state.Made it) = made ≡ true
 MayFindUnasked made _ = ⊥
 
--- what may be found at any other name
 abbrev pub MayFindAsked : Bool → FileState → Type 0
 MayFindAsked made state.NoPath = ⊥
 MayFindAsked made (state.Missing it) = (made ≡ true) → it ≢ missing.NoFile
@@ -170,7 +166,6 @@ MayFindAsked made state.Empty = made ≡ false
 MayFindAsked made (state.Made it) = made ≡ true
 MayFindAsked made (state.Filled it) = ⊤
 
--- what may be found, by whether SQLite reads the name otherwise than as a path (true)
 abbrev pub MayFind : Bool → Bool → FileState → Type 0
 MayFind true made found = MayFindUnasked made found
 MayFind false made found = MayFindAsked made found
@@ -308,14 +303,13 @@ abbrev pub IsReadSo : Answers → List ℕ → (ℕ → List ℕ → Type 0) →
 IsReadSo it path says = (it.unread path ≡ None)
     × IsSomeAnd (regular_len (it.found path)) (λ len. IfSome (it.bytes path) (says len))
 
--- a path leads to a file that can be read, and whose pages have checksums
+-- its pages have checksums, so many have wrong ones, or it lists its tables in an order that the desk doesn't
+-- read
 abbrev pub HasChecksumsAt : Answers → List ℕ → Type 0
 HasChecksumsAt it path = IsReadSo it path (λ len. HasChecksums)
 
--- a path leads to a file that can be read, and of which so many pages have wrong checksums
 abbrev pub HasBadChecksums : Answers → List ℕ → ℕ → Type 0
 HasBadChecksums it path count = IsReadSo it path (λ len bytes. IsBadCount len bytes (Some count))
 
--- a path leads to a file that can be read, and lists its tables in an order that the desk doesn't read
 abbrev pub HasOtherOrderAt : Answers → List ℕ → Type 0
 HasOtherOrderAt it path = IsReadSo it path (λ len. HasOtherOrder)

@@ -10,8 +10,9 @@ use Rattle.host_files.specs.declared.{naming.NewFile.NewFile, pairs.ScratchFault
 use Rattle.host_files.specs.declared.pairs.ScratchFault.TheVariants as fault
 
 -- ==== The steps by which a new file gets its name
+-- Steps are those of the trait `Folder`.
 
--- a step of the trait `Folder` on the files at some paths
+-- a step on the files at some paths
 pub data Step : Type 0 where
   -- nothing was found at the path
   Free : List ℕ → Step
@@ -49,11 +50,10 @@ abbrev pub TakesIfNone : {X : Type 0} → Steps → Option X → Step → Type 0
 TakesIfNone steps None step = Follows steps (step ∷ [])
 TakesIfNone steps (Some cause) step = Follows steps (Failed ∷ [])
 
--- the name of the WAL of a file
+-- the name of the WAL of a file, and the temporary name of a new file
 abbrev pub log_of : List ℕ → List ℕ
 log_of path = path ++ codes "-wal"
 
--- the temporary name of a new file
 abbrev pub part_of : List ℕ → List ℕ
 part_of path = path ++ codes ".part"
 
@@ -174,12 +174,11 @@ abbrev pub made_text : ErrorKind → Option (Bool × List ℕ)
 made_text kind.OutOfMemory = None
 made_text it = Some (false, creation_error_text it)
 
--- the same for a source that can't be opened, by the kind of the error
+-- the same for a source that can't be opened, and for one that can't be copied, by the kind of the error
 abbrev pub source_text : ErrorKind → Option (Bool × List ℕ)
 source_text kind.OutOfMemory = None
 source_text _ = Some (true, codes "it can't be read")
 
--- the same for a copy that stopped, by the kind of the error
 abbrev pub copy_text : ErrorKind → Option (Bool × List ℕ)
 copy_text kind.OutOfMemory = None
 copy_text kind.StorageFull = Some (false, codes "a full disk")

@@ -12,7 +12,7 @@ use Rattle.desk_sql.specs.{Rows.joined, Rows.columns_from_first, Rows.is_at_leas
 use Rattle.live_index.specs.{declared.near.PlanKey.PlanKey, declared.near.Wanted.Wanted, Live.held_but}
 use Rattle.row_codec.specs.{Tables.id_text, Tables.usage_number, Tables.aircraft_number, Tables.row_of_plan, Tables.volume_rows_from, Tables.area_rows, declared.values.PlanHead.PlanHead}
 
--- the five columns from `at` on (`lower`, `upper`, `start`, `stop`, `asked`) are those of a volume
+-- the five columns from `at` on, of which `lower` is the first, are those of a volume
 pub record IsVolumeAt (row : Row) (at : ℕ) (v : Block) : Type 0 where
   pub lower : column row at ≡ Int v.window.lower
   pub upper : column row (at + 1) ≡ Int v.window.upper
@@ -20,7 +20,7 @@ pub record IsVolumeAt (row : Row) (at : ℕ) (v : Block) : Type 0 where
   pub end : column row (at + 3) ≡ Int v.window.end
   pub asked : column row (at + 4) ≡ Blob (footprint_bytes v.footprint)
 
--- the columns from `id` to `aircraft` (1 to 4) are those of a plan
+-- the columns from `id` to `aircraft` are those of a plan
 pub record IsHead (row : Row) (p : PlanRow) : Type 0 where
   pub id : column row 1 ≡ Text (id_text p.id)
   pub priority : column row 2 ≡ Int (pos p.priority)
@@ -43,7 +43,7 @@ is_later row = is_positive (column row 5)
 abbrev pub joined_rows : Filed → List Row
 joined_rows p = map (joined (row_of_plan p)) (area_rows p)
 
--- the joined rows of plans, one plan after the other
+-- those of plans, one plan after the other
 abbrev pub listing_rows : List Filed → List Row
 listing_rows ps = flat_map joined_rows ps
 
@@ -63,8 +63,7 @@ plan_with head area =
       area = area;
     }
 
--- the finished plans, whose rows have all been read and whose usage may be any, once the plan of `head` is at
--- its end: those before and, if there is a `head`, its plan with these volumes
+-- the finished plans, and the plan of `head` with the volumes so far, if there is one
 abbrev pub closed_plans : List PlanRow → Option PlanHead → List Block → List PlanRow
 closed_plans plans None volumes = plans
 closed_plans plans (Some head) volumes = plans ++ plan_with head volumes ∷ []
@@ -100,7 +99,7 @@ abbrev pub HasNoArea : Option PlanHead → List Block → Type 0
 HasNoArea None volumes = ⊥
 HasNoArea (Some head) volumes = is_area volumes ≡ false
 
--- a row whose columns from `id` to `aircraft` are those of no plan with a priority of 32 bits
+-- a row that begins no plan
 abbrev pub IsNoHead : Row → Type 0
 IsNoHead row = (p : PlanRow) → IsId p.id → p.priority < 2 ^ 32 → ¬ IsHead row p
 
@@ -160,8 +159,7 @@ span_filter_of extent least = record {
   priority = least;
 }
 
--- the filter for spans that overlap an extent, have at least the priority `least`, and begin at the last leaf
--- of a query or before. The first leaf of the query isn't used
+-- and that begin at the last leaf of a query or before
 abbrev pub span_filter_from : Span → Slab → ℕ → SpanFilter
 span_filter_from query extent least = record (span_filter_of extent least) { last = pos query.last }
 

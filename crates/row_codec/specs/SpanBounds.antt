@@ -1,4 +1,4 @@
--- How long the spans of plans are, how many there are, and how many cells.
+-- How long the spans of plans are, and how many there are.
 use Rattle.std.specs.Prelude.{◌≡◌, ℕ, ◌+◌, ◌≤◌, ◌⊎◌, ◌==◌, ◌&&◌, nat_le, ℤ, pos, Bool, false, List, Option, Some, None, MatchBool, IfSome, IsTrue, ⊤, slice_get, length, ◌<◌, ◌*◌, ◌^◌}
 use Rattle.std.specs.List.{AllByRecursion, list_any, filter, sum_by}
 use Rattle.sqlite_value.specs.{declared.value.Value.TheVariants.Int, Order.Row, Order.column}
@@ -55,7 +55,7 @@ abbrev pub BeginsOrNone : ℕ → Option Span → Type 0
 BeginsOrNone first None = ⊤
 BeginsOrNone first (Some long_span) = long_span.first ≡ first
 
--- `at` is the index of a place that is free, or whose long span begins at the leaf `first`
+-- `at` is the index of such a place
 abbrev pub IsRoomFor : List (Option Span) → ℕ → ℕ → Type 0
 IsRoomFor long_spans first at = IfSome (slice_get long_spans at) (BeginsOrNone first)
     × (at < length long_spans)
@@ -91,7 +91,7 @@ abbrev pub IsKnownBetween : SpanBounds → ℤ → ℤ → Type 0
 IsKnownBetween span_bounds first last =
     (a b : ℕ) → first ≡ pos a → last ≡ pos b → IsKnown span_bounds (record { first = a; last = b })
 
--- the same of the columns `first` and `last` (3 and 4) of a row of spans
+-- the same of the columns `first` and `last` of a row of spans
 abbrev pub IsKnownRow : SpanBounds → Row → Type 0
 IsKnownRow span_bounds row = (a b : ℕ) → column row 3 ≡ Int (pos a) → column row 4 ≡ Int (pos b)
     → IsKnown span_bounds (record { first = a; last = b })

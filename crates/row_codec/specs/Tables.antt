@@ -17,13 +17,13 @@ use Rattle.desk_changes.specs.RowChanges.{PlanPut}
 use Rattle.row_codec.specs.declared.exact.{RowFault.RowFault, RowFault.TheVariants.OutOfMemory, RowFault.TheVariants.InvalidRows}
 use Rattle.row_codec.specs.declared.exact.RowFault.TheVariants as row
 
--- the number of a usage in a row: 0 Planned, 1 InUse, 2 Closed
+-- 0 Planned, 1 InUse, 2 Closed
 abbrev pub usage_number : Usage → ℕ
 usage_number usage.Planned = 0
 usage_number usage.InUse = 1
 usage_number usage.Closed = 2
 
--- the number of a state of the aircraft in a row: 0 Nominal, 1 OffNominal, 2 Contingent
+-- 0 Nominal, 1 OffNominal, 2 Contingent
 abbrev pub aircraft_number : Aircraft → ℕ
 aircraft_number aircraft.Nominal = 0
 aircraft_number aircraft.OffNominal = 1
@@ -94,22 +94,21 @@ area_rows p = volume_rows_from p 0 p.row.area
 abbrev pub volume_rows : List Filed → List Row
 volume_rows ps = flat_map area_rows ps
 
--- the covers of a plan's volumes, by place
+-- the covers of a plan's volumes, by place, and those of plans one after the other
 abbrev pub area_covers : Filed → List Row
 area_covers p = rows_from row_of_cover p 0 p.row.area
 
--- the covers of plans, one plan after the other
 abbrev pub cover_rows : List Filed → List Row
 cover_rows ps = flat_map area_covers ps
 
--- one row for each range of leaves of each volume; the places of the volumes go up from a first one
+-- one row for each range of the leaves of each volume
 abbrev pub AreSpanRowsFrom : Filed → ℕ → List Block → List Row → Type 0
 AreSpanRowsFrom p place [] rows = rows ≡ []
 AreSpanRowsFrom p place (v ∷ vs) rows =
     (spans : List Span) × (rest : List Row) × IsRanges (shape_positions v.footprint) spans
     × (rows ≡ map (row_of_span p place v) spans ++ rest) × AreSpanRowsFrom p (place + 1) vs rest
 
--- the rows of `span2` of a plan: one for each range of leaves of each volume; a closed plan has none
+-- a closed plan has none
 abbrev pub ArePlanSpanRows : Filed → List Row → Type 0
 ArePlanSpanRows p rows = MatchBool (is_live p.row.usage) (AreSpanRowsFrom p 0 p.row.area rows) (rows ≡ [])
 

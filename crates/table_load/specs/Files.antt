@@ -103,7 +103,7 @@ module _ {D : Type 0} {g : disk.Ghosts D} where
     pub live : IsOpenIfClean (over_files {D = D} {g = g}) h
     pub begins : BeginsWith (over_files {D = D} {g = g}) found h w
 
--- a fault that blames neither tables nor rows: so of files that were not read, or of calls that only write
+-- what is said of files in which nothing was read: neither what tables nor what rows they have
 abbrev pub IsUnread : OpenFault → Type 0
 IsUnread e = (e ≢ NotADesk) × (e ≢ OldSchema)
 
@@ -180,16 +180,16 @@ ReadsAs db None = (w : World) → ¬ HasWorld db w
 ReadsAs db (Some w) = HasWorld db w
 
 module _ {S : Type 0} (g : Ghosts S) where
-  -- what a start may find if the program ends here: a content, or None for an invalid database
+  -- what may be found if the program ends here
   abbrev pub MayLeave : Held S → Option World → Type 0
   MayLeave h found = (db : Trees) × (state g h).may_leave db × ReadsAs db found
 
-  -- over a clean disk, a crash leaves what it could leave before, or the rows of this content
+  -- a crash leaves what it could leave before, or the rows of this content
   abbrev pub MayHave : Held S → Held S → World → Type 0
   MayHave old new w = HasCleanDisk (state g new) → (db : Trees)
       → (state g new).may_leave db → (state g old).may_leave db ⊎ HasWorld db w
 
-  -- while the disk returned what was written and the connection is open, a crash leaves this content alone
+  -- while the connection is open, a crash leaves this content and nothing else
   abbrev pub IsSettledAt : Held S → World → Type 0
   IsSettledAt h w = HasCleanDisk (state g h) → IsTrue (state g h).is_open → LeavesOnly w (MayLeave h)
 
@@ -214,13 +214,13 @@ abbrev pub IsLegible : {D : Type 0} {g : disk.Ghosts D} → Held (FileStore D g)
 IsLegible h = HasCleanDisk (file_state h) × IsTrue (file_state h).is_open
 
 module _ {D E : Type 0} {g : disk.Ghosts D} {k : disk.Ghosts E} (last : Held (FileStore D g)) where
-  -- a start finds the database in files that a crash may have left of `last`
+  -- a start finds the database in such files
   pub record IsFoundAfter (found : Held (FileStore E k)) : Type 0 where
     pub image : Image
     pub files : IsImageLeft last image
     pub first : FindsFirst image found
 
-  -- a store begins over files that a crash may have left of `last`, on a clean disk
+  -- a store begins over such files, on a clean disk
   pub record BeginsAfter (new : Held (FileStore E k)) (w : World) : Type 0 where
     pub image : Image
     pub files : IsImageLeft last image
@@ -230,14 +230,14 @@ module _ {D E : Type 0} {g : disk.Ghosts D} {k : disk.Ghosts E} (last : Held (Fi
 module _ {D E : Type 0} {g : disk.Ghosts D} {k : disk.Ghosts E} (last : Held (FileStore D g)) (e : OpenFault)
     (left : Held (FileStore E k))
   where
-    -- files that a crash may have left are refused by a connection that stays open, on a clean disk
+    -- such files are opened, and refused by a connection that is left open, on a clean disk
     pub record IsRefusedAfter : Type 0 where
       pub image : Image
       pub files : IsImageLeft last image
       pub refused : IsRefusedIn image e left
       pub legible : IsLegible left
 
-    -- they are refused so, though memory is left and no call to the disk failed
+    -- though memory is left, and the disk had no fault
     pub record IsRefusedAtRest : Type 0 where
       pub after : IsRefusedAfter
       pub room : e ≢ OutOfMemory

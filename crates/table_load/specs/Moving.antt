@@ -13,15 +13,14 @@ use Rattle.row_codec.specs.{Tables.operator_rows, Tables.plan_rows, Tables.area_
 use Rattle.table_load.specs.{Opening.IsDatabaseOf, Opening.AreParts, Opening.BeginsWith, Opening.HasNoContent, Opening.IsContentOf, Opening.AreNoContent, declared.looking.DbStats.DbStats}
 
 -- ---- schema 1
--- the most volumes of a plan in schema 1
+-- the most volumes of a plan, and the most cells of a rectangle's cover, in schema 1
 abbrev pub old_max_volumes : ℕ
 old_max_volumes = 8
 
--- the most cells of the canonical cover of a rectangle in schema 1
 abbrev pub old_max_cover : ℕ
 old_max_cover = 256
 
--- the cover of a rectangle keeps the limit of schema 1; a cell list has the same limits in both schemas
+-- a cell list has the same limits in both
 abbrev pub IsOldShape : Shape → Type 0
 IsOldShape (cells ids) = ⊤
 IsOldShape (rectangle r) = length (canonical_list (shape_positions (rectangle r))) ≤ old_max_cover
@@ -71,7 +70,7 @@ pub record AreOldParts (t : Tables) (ls : List Listed) (ps : List Filed) : Type 
   pub areas : AllByRecursion (λ p. IsOldArea p.row.area) ps
 
 -- ---- the move
--- the rows of a plan in `volume2` and `span2` are added, and no other row changes
+-- the rows of a plan are added
 pub record AddsPlanRows (p : Filed) (old new : Tables) : Type 0 where
   pub operators : new.operators ≡ old.operators
   pub plans : new.plans ≡ old.plans
@@ -81,7 +80,7 @@ pub record AddsPlanRows (p : Filed) (old new : Tables) : Type 0 where
   pub with_covers : IsPermutation (area_covers p ++ old.covers) new.covers
   pub with_spans : (rows : List Row) × ArePlanSpanRows p rows × IsPermutation (rows ++ old.spans) new.spans
 
--- the rows of plans in `volume2` and `span2` are added, and no other row changes
+-- the rows of plans are added
 pub record AddsPlansRows (ps : List Filed) (old new : Tables) : Type 0 where
   pub operators : new.operators ≡ old.operators
   pub plans : new.plans ≡ old.plans
@@ -148,13 +147,13 @@ module _ {S : Type 0} (g : Ghosts S) (old new : Held S) where
       HasCleanDisk (state g new) → IsTrue (state g new).is_open →
       ((count ≡ 0) × BeginsWith g old new w) ⊎ ((count ≡ reported_count w.plans) × WasMoved g old new w)
 
-  -- over a clean disk and an open connection, what was shown is invalid, in either schema
+  -- what is shown is invalid, in either schema
   abbrev pub ShowsNoContent : Type 0
   ShowsNoContent = HasCleanDisk (state g new) → IsTrue (state g new).is_open →
       HasOthers (state g old).now
       ⊎ (HasNoContent (state g old).now ⊎ HasNoOldContent (state g old).now)
 
-  -- the tables were `made` and are `next` now, with the rows that there were
+  -- the schema's tables are made so far now, with the rows that there were
   pub record HasSameRows : Type 0 where
     pub made : TablesPresent
     pub next : TablesPresent
@@ -163,7 +162,7 @@ module _ {S : Type 0} (g : Ghosts S) (old new : Held S) where
     pub after : IsMadeTo next (state g new).now
     pub same : tables_at next (state g new).now.trees ≡ tables_at made (state g old).now.trees
 
-  -- over a clean disk and an open connection, what is shown is what was shown, or has the same rows
+  -- what is shown is what was shown, or has the same rows
   abbrev pub KeepsRows : Type 0
   KeepsRows =
       HasCleanDisk (state g new) → IsTrue (state g new).is_open → ShowsAsBefore g old new ⊎ HasSameRows

@@ -1,5 +1,4 @@
--- What all rows of the schema's tables stand for, and what a store over them begins with. A content is a
--- valid state. A clean disk returned what was written so far.
+-- What all rows of the schema's tables stand for, and what a store over them begins with.
 use Rattle.std.specs.Prelude.{◌≡◌, ◌↔◌, Bool, List, map, IsTrue, false, None, ◌≢◌, ℕ, ◌⊎◌, true, [], ◌∷◌, codes, if◌then◌else◌, IsSome, ◌<◌, ◌^◌, length, IsPermutation}
 use Rattle.std.specs.{List.AllByRecursion, List.Sorted.IsStrictlySortedBy}
 use Rattle.sqlite_value.specs.{declared.value.Value.TheVariants.Blob, Order.Row, Order.column}
@@ -14,7 +13,7 @@ use Rattle.row_codec.specs.{RowsRead.IsVolumeAt, Tables.canon_bytes, Tables.AreT
 use Rattle.row_codec.specs.declared.exact.RowFault.TheVariants as row
 use Rattle.table_load.specs.declared.fault.{OpenFault.OpenFault, OpenFault.TheVariants.OutOfMemory, OpenFault.TheVariants.Store, OpenFault.TheVariants.NotADesk, OpenFault.TheVariants.OldSchema}
 
--- the cover in a row of `volume2` is the canonical cover of this volume
+-- a row has the cover of a volume
 abbrev pub HasCoverOf : Block → Row → Type 0
 HasCoverOf v row = column row 8 ≡ Blob (canon_bytes v.footprint)
 
@@ -45,23 +44,22 @@ pub record Stands {S : Type 0} (g : Ghosts S) (h : Held S) (w : World) : Type 0 
   pub standing : HasCleanDisk (state g h) → IsTrue (state g h).is_open → IsDatabaseOf g h w
 
 -- ==== What all rows of the schema's tables stand for, and what a store over a connection begins with
--- the fault as a sentence
+-- why a store cannot be opened
 abbrev pub open_fault_text : OpenFault → List ℕ
 open_fault_text OutOfMemory = codes "out of memory"
 open_fault_text Store = codes "the database failed"
 open_fault_text NotADesk = codes "the tables are not a desk's"
 open_fault_text OldSchema = codes "the tables are of schema 1"
 
--- whether an error of SQLite is that memory ran out
 abbrev pub is_memory : Error → Bool
 is_memory (SqliteFailure code.OutOfMemory) = true
 is_memory _ = false
 
--- the fault of an opening for an error of SQLite
+-- what an error of SQLite makes an opening answer
 abbrev pub open_fault_of : Error → OpenFault
 open_fault_of error = if is_memory error then OutOfMemory else Store
 
--- the fault of an opening for rows that cannot be read
+-- what rows that are not read make an opening answer
 abbrev pub fault_of_rows : RowFault → OpenFault
 fault_of_rows row.OutOfMemory = OutOfMemory
 fault_of_rows row.InvalidRows = NotADesk
@@ -119,7 +117,7 @@ pub record IsPart (made : TablesPresent) (db : Database) : Type 0 where
   pub missing : made ≢ All
   pub part : IsMadeTo made db
 
--- a part of the schema's tables was made, with the rows of the world; all are made now, and have these rows
+-- so it was, with the rows of the world; all are made now, and have these rows
 pub record WasCompleted {S : Type 0} (g : Ghosts S) (old new : Held S) (w : World) : Type 0 where
   pub made : TablesPresent
   pub part : IsPart made (state g old).now
@@ -154,12 +152,11 @@ pub record HasOldRows (db : Database) : Type 0 where
 abbrev pub HasRowsOld : TablesPresent → Bool → Database → Type 0
 HasRowsOld made old db = has_old_rows (tables_at made db.trees) ≡ old
 
--- there are no rows of schema 1
 abbrev pub HasNewRows : TablesPresent → Database → Type 0
 HasNewRows made = HasRowsOld made false
 
 module _ {S : Type 0} (g : Ghosts S) (old new : Held S) where
-  -- over a clean disk and an open connection, a store begins with this world, in one of four ways
+  -- over a connection that is open and a clean disk, a store of this world begins
   abbrev pub BeginsWith : World → Type 0
   BeginsWith w =
       HasCleanDisk (state g new) → IsTrue (state g new).is_open →
@@ -178,7 +175,7 @@ module _ {S : Type 0} (g : Ghosts S) (old new : Held S) where
   abbrev pub IsHindered : Type 0
   IsHindered = HasDiskFailed g old new ⊎ IsSome old.step_limit
 
-  -- over a clean disk and an open connection, a call answers `Store` only if it is hindered
+  -- over an open connection, `Store` is answered only if the disk failed or a statement's steps are limited
   abbrev pub BlamesReading : OpenFault → Type 0
   BlamesReading e = HasCleanDisk (state g new) → IsTrue (state g new).is_open → e ≡ Store → IsHindered
 

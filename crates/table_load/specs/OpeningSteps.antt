@@ -170,12 +170,12 @@ abbrev pub IsMovedOn : Database → Trees → Type 0
 IsMovedOn db left = IsCompletedAs db left ⊎ IsMovedAs db left
 
 module _ {S : Type 0} (g : Ghosts S) (old new : Held S) (Becomes : Database → Trees → Type 0) where
-  -- over a clean disk, a crash leaves what it could leave before, or what the shown database has become
+  -- a crash leaves what it could leave before, or what an open connection showed has become this
   abbrev pub MayBecome : Type 0
   MayBecome = HasCleanDisk (state g new) → (db : Trees) → (state g new).may_leave db
       → (state g old).may_leave db ⊎ (IsTrue (state g old).is_open × Becomes (state g old).now db)
 
-  -- over a clean disk, a crash leaves the trees that an open connection showed, or what they have become
+  -- a crash leaves the trees that an open connection showed, or what they have become
   abbrev pub LeavesShownOr : Type 0
   LeavesShownOr = HasCleanDisk (state g new) → IsTrue (state g old).is_open → (db : Trees)
       → (state g new).may_leave db → (db ≡ (state g old).now.trees) ⊎ Becomes (state g old).now db
@@ -213,7 +213,6 @@ pub record IsPlanHead (head : Row) : Type 0 where
   pub priority : plan.row.priority ≤ max_priority
   pub row : head ≡ row_of_plan plan
 
--- each row is that of a plan within the limits, whatever its volumes are
 abbrev pub ArePlanHeads : List Row → Type 0
 ArePlanHeads heads = AllByRecursion IsPlanHead heads
 

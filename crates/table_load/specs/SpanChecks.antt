@@ -15,7 +15,7 @@ AreRestOf p slabs shown place rows = MatchBool (is_live p.row.usage)
     × AreSpanRowsFrom p place (drop place p.row.area) more)
     (rows ≡ [])
 
--- rows are those that are left of the first plan, as *AreRestOf* says, and then those of the plans after it
+-- and then those of the plans after it
 abbrev pub AreAwaited : List Filed → List Slab → ℕ → ℕ → List Row → Type 0
 AreAwaited [] slabs shown place rows = rows ≡ []
 AreAwaited (p ∷ ps) slabs shown place rows =
